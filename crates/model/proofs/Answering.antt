@@ -16,7 +16,8 @@ use Rattle.model.specs.Books.{Meaning}
 use Rattle.model.specs.Files.{Placed, GoodPlaced, Lined, HasLines, Ordered, Passes}
 use Rattle.model.specs.Rules.{Belongs}
 use Rattle.model.specs.Cards.{Blanks}
-use Rattle.model.specs.Refusals.{Fault, lines-of, others-from, others, LineRule, levels, first, last, steps, named, continued, room, apart, aimed, LinesKeep, Refuses}
+use Rattle.model.specs.Refusals.{lines-of, others-from, others, LineRule, levels, first, last, steps, named, continued, room, apart, aimed, LinesKeep, Refuses}
+use Rattle.model.specs.declared.Fault.{Fault}
 use Rattle.model.specs.Runs.{Reply, unread, number, ReadsAs}
 use Rattle.model.specs.Calls.{Accepted, Declined}
 use Rattle.model.proofs.Deciding.{refuses-once}

@@ -20,7 +20,8 @@ use Rattle.std.specs.declared.option.Option.the-variants.{Some, None}
 use Rattle.model.specs.Characters.{Clean, banned}
 use Rattle.model.specs.Books.{Meaning}
 use Rattle.model.specs.Refusals.{fault, Short, is-end-at, ends-before, Refuses, malformed, forbidden}
-use Rattle.model.specs.LineTurns.{Spot, note}
+use Rattle.model.specs.LineTurns.{note, spot}
+use Rattle.model.specs.declared.Place.{Place}
 use Rattle.model.proofs.Cutting.{clean-append}
 use Rattle.model.specs.Bytes.{lead-length, is-next, is-second, width-of, is-banned, width-at, banned-at, Allowed, Checked}
 
@@ -374,14 +375,14 @@ take-char file i w c =
     let long : length (encode (c .character)) ≡ w = let f = c .fits in omega (arith, simp (length-append, length-drop) at (ap length (c .begins))) in
     take-add i w file ∙ ap (λ l. take i file ++ l) (ap (take w) (c .begins) ∙ take-at (encode (c .character)) (drop (i + w) file) w long)
 
-allowed-more : (file : List ℕ) (i ends w : ℕ) (o : Option Spot) (c : Char file i w) → ends ≡ ends-before file i → Allowed file i o → Allowed file (i + w) (note o (banned-at file i) (ends + 1, i))
+allowed-more : (file : List ℕ) (i ends w : ℕ) (o : Option Place) (c : Char file i w) → ends ≡ ends-before file i → Allowed file i o → Allowed file (i + w) (note o (banned-at file i) (spot (ends + 1) i))
 allowed-more file i ends w None c e a = elim (cases-bool (banned-at file i)) [
-  | inl b ↦ subst (λ t. Allowed file (i + w) (note None t (ends + 1, i))) (sym b) (record { before = a; character = c .character; real = c .real; is-banned = c .watched ∙ b; begins = (drop (i + w) file, c .begins) }, omega arith)
-  | inr b ↦ subst (λ t. Allowed file (i + w) (note None t (ends + 1, i))) (sym b) (subst Clean (sym (take-char file i w c)) (clean-append (take i file) (encode (c .character)) a (clean-one (c .character) (c .real) (c .watched ∙ b))))
+  | inl b ↦ subst (λ t. Allowed file (i + w) (note None t (spot (ends + 1) i))) (sym b) (record { before = a; character = c .character; real = c .real; is-banned = c .watched ∙ b; begins = (drop (i + w) file, c .begins) }, omega arith)
+  | inr b ↦ subst (λ t. Allowed file (i + w) (note None t (spot (ends + 1) i))) (sym b) (subst Clean (sym (take-char file i w c)) (clean-append (take i file) (encode (c .character)) a (clean-one (c .character) (c .real) (c .watched ∙ b))))
 ]
 allowed-more file i ends w (Some s) c e a = a
 
-checked-by : (file : List ℕ) (i ends w : ℕ) (o : Option Spot) → Char file i w → 0 < w → Checked file i ends o → Checked file (i + w) (ends + cond (is-end-at file i) 1 0) (note o (banned-at file i) (ends + 1, i))
+checked-by : (file : List ℕ) (i ends w : ℕ) (o : Option Place) → Char file i w → 0 < w → Checked file i ends o → Checked file (i + w) (ends + cond (is-end-at file i) 1 0) (note o (banned-at file i) (spot (ends + 1) i))
 checked-by file i ends w o c some h = record {
   within = c .fits;
   counted = ap (λ n. n + cond (is-end-at file i) 1 0) (h .counted) ∙ sym (ends-by file i w some (c .high));
@@ -391,26 +392,26 @@ checked-by file i ends w o c some h = record {
 }
 
 -- one character more
-pub checked-more : (file : List ℕ) (i ends : ℕ) (o : Option Spot) → Checked file i ends o → i < length file → 0 < width-at file i → Checked file (i + width-at file i) (ends + cond (is-end-at file i) 1 0) (note o (banned-at file i) (ends + 1, i))
+pub checked-more : (file : List ℕ) (i ends : ℕ) (o : Option Place) → Checked file i ends o → i < length file → 0 < width-at file i → Checked file (i + width-at file i) (ends + cond (is-end-at file i) 1 0) (note o (banned-at file i) (spot (ends + 1) i))
 checked-more file i ends o h l some = checked-by file i ends (width-at file i) o (char-at file i l some) some h
 
 -- the same, by what the code has found
-pub checked-step : (file : List ℕ) (i ends w more : ℕ) (o p : Option Spot) (b e : Bool) → Checked file i ends o → i < length file → (w ≡ 0 → ⊥) → w ≡ width-at file i → b ≡ banned-at file i → e ≡ is-end-at file i → more ≡ ends + cond e 1 0 → p ≡ note o b (ends + 1, i) → Checked file (i + w) more p
+pub checked-step : (file : List ℕ) (i ends w more : ℕ) (o p : Option Place) (b e : Bool) → Checked file i ends o → i < length file → (w ≡ 0 → ⊥) → w ≡ width-at file i → b ≡ banned-at file i → e ≡ is-end-at file i → more ≡ ends + cond e 1 0 → p ≡ note o b (spot (ends + 1) i) → Checked file (i + w) more p
 checked-step file i ends w more o p b e h l some ew eb ee em ep =
     let passed : 0 < width-at file i = elim (cases-lt 0 w) [ inl k ↦ subst (λ n. 0 < n) ew k | inr k ↦ absurd (some (omega arith)) ] in
     let r = checked-more file i ends o h l passed in
-    subst (λ n. Checked file (i + w) n p) (sym (em ∙ ap (λ t. ends + cond t 1 0) ee)) (subst (λ q. Checked file (i + w) (ends + cond (is-end-at file i) 1 0) q) (sym (ep ∙ ap (λ t. note o t (ends + 1, i)) eb)) (subst (λ n. Checked file (i + n) (ends + cond (is-end-at file i) 1 0) (note o (banned-at file i) (ends + 1, i))) (sym ew) r))
+    subst (λ n. Checked file (i + w) n p) (sym (em ∙ ap (λ t. ends + cond t 1 0) ee)) (subst (λ q. Checked file (i + w) (ends + cond (is-end-at file i) 1 0) q) (sym (ep ∙ ap (λ t. note o t (spot (ends + 1) i)) eb)) (subst (λ n. Checked file (i + n) (ends + cond (is-end-at file i) 1 0) (note o (banned-at file i) (spot (ends + 1) i))) (sym ew) r))
 
 -- none begins here: rule 2
-pub checked-invalid : (m : Meaning) (file : List ℕ) (cards i ends : ℕ) (o : Option Spot) → Short file → Checked file i ends o → i < length file → width-at file i ≡ 0 → Refuses m file cards (fault 2 (ends + 1) i)
+pub checked-invalid : (m : Meaning) (file : List ℕ) (cards i ends : ℕ) (o : Option Place) → Short file → Checked file i ends o → i < length file → width-at file i ≡ 0 → Refuses m file cards (fault 2 (ends + 1) i)
 checked-invalid m file cards i ends o short h l z = malformed i short (valid-to file i l (h .text) (no-char file i z)) (λ k. fault 2 ((let q : ends + 1 ≡ 1 + ends-before file i = omega (arith, h .counted) in q) k) i)
 
 -- the end: rule 3
-checked-text : (file : List ℕ) (i ends : ℕ) (o : Option Spot) → Checked file i ends o → length file ≤ i → Utf8 file
+checked-text : (file : List ℕ) (i ends : ℕ) (o : Option Place) → Checked file i ends o → length file ≤ i → Utf8 file
 checked-text file i ends o h l = subst Utf8 (take-all i file l) (h .text)
 
-pub checked-banned : (m : Meaning) (file : List ℕ) (cards i ends : ℕ) (s : Spot) → Short file → Checked file i ends (Some s) → length file ≤ i → Refuses m file cards (fault 3 (s .0) (s .1))
-checked-banned m file cards i ends s short h l = forbidden (s .1) short (checked-text file i ends (Some s) h l) (h .allowed .0) (λ k. fault 3 (h .allowed .1 k) (s .1))
+pub checked-banned : (m : Meaning) (file : List ℕ) (cards i ends : ℕ) (s : Place) → Short file → Checked file i ends (Some s) → length file ≤ i → Refuses m file cards (fault 3 (s .line) (s .byte))
+checked-banned m file cards i ends s short h l = forbidden (s .byte) short (checked-text file i ends (Some s) h l) (h .allowed .0) (λ k. fault 3 (h .allowed .1 k) (s .byte))
 
 pub checked-clean : (file : List ℕ) (i ends : ℕ) → Checked file i ends None → length file ≤ i → Clean file
 checked-clean file i ends h l = subst Clean (take-all i file l) (h .allowed)

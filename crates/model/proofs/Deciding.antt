@@ -21,7 +21,8 @@ use Rattle.model.specs.Books.{Meaning}
 use Rattle.model.specs.Files.{Placed, all-bytes, Lined, Passes}
 use Rattle.model.specs.Rules.{Situation, situations, Keeps18, types-of, top-types}
 use Rattle.model.specs.declared.Context.the-variants.{Top}
-use Rattle.model.specs.Refusals.{Fault, fault, First, BannedAt, Unlined, lines-of, others, byte-at, Breaks, BreaksBook, BreaksTop, BreaksNeeds, LineRule, levels, first, last, steps, named, continued, room, apart, aimed, line-rule-number, LineKeeps, LinesKeep, LineRefusal, BookRule, known, taken, aimed-right, single, needed, filled, book-rule-number, BookKeeps, TopKeeps, BookTells, BookRefusal, Refuses, too-long, malformed, forbidden, unlined, lined, booked, line-at}
+use Rattle.model.specs.Refusals.{fault, First, BannedAt, Unlined, lines-of, others, byte-at, Breaks, BreaksBook, BreaksTop, BreaksNeeds, LineRule, levels, first, last, steps, named, continued, room, apart, aimed, line-rule-number, LineKeeps, LinesKeep, LineRefusal, BookRule, known, taken, aimed-right, single, needed, filled, book-rule-number, BookKeeps, TopKeeps, BookTells, BookRefusal, Refuses, too-long, malformed, forbidden, unlined, lined, booked, line-at}
+use Rattle.model.specs.declared.Fault.{Fault}
 use Rattle.model.proofs.Parts.{part-once}
 use Rattle.model.proofs.Lining.{lined-once}
 use Rattle.model.proofs.Entries.{same-lines-once}

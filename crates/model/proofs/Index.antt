@@ -18,7 +18,8 @@ use Rattle.model.specs.Lines.{Line, pointer}
 use Rattle.model.specs.Datasets.{CONT}
 use Rattle.model.specs.Files.{Placed, at}
 use Rattle.model.specs.Refusals.{First, lines-of, others-from, others, Keeps12, Keeps13, named, continued, apart, aimed, LineKeeps}
-use Rattle.model.specs.LineTurns.{Spot, Noted, told, RulesKept, Verdict}
+use Rattle.model.specs.LineTurns.{Noted, told, RulesKept, Verdict}
+use Rattle.model.specs.declared.Place.{Place}
 use Rattle.model.specs.Index.{place-of, card-line, card-spot, CardsNoted, name-of, key, Strict, Before, Indexed, Repeats, LeastRepeat, lesser}
 use Rattle.model.proofs.Answering.{others-within}
 use Rattle.model.proofs.Noting.{told-next}
@@ -282,7 +283,7 @@ least-same name other card mark n (Some k) e f h =
     ((a, al, sym (e a (omega arith)) ∙ r ∙ e (a + 1) al, sym (f (a + 1) al) ∙ is), λ b l t. subst (λ m. k ≤ m) (f (b + 1) l) (least b l (e b (omega arith) ∙ t ∙ sym (e (b + 1) l))))
 
 -- The rules 12 and 13, asked of lines that keep those before them
-pub index-verdict : (cards : ℕ) (ps : List Placed) (o p : Option Spot) → RulesKept 12 cards ps → Noted (LineKeeps apart cards ps) ps o → Noted (LineKeeps aimed cards ps) ps p → Verdict 14 cards ps (told 12 o (told 13 p None))
+pub index-verdict : (cards : ℕ) (ps : List Placed) (o p : Option Place) → RulesKept 12 cards ps → Noted (LineKeeps apart cards ps) ps o → Noted (LineKeeps aimed cards ps) ps p → Verdict 14 cards ps (told 12 o (told 13 p None))
 index-verdict cards ps o p k a b = told-next 12 14 apart cards ps o (told 13 p None) refl k a (λ e12 k13. told-next 13 14 aimed cards ps p None refl k13 b (λ e13 k14. k14))
 
 pub kept-fewer : (k m cards : ℕ) (ps : List Placed) → k ≤ m → RulesKept m cards ps → RulesKept k cards ps

@@ -20,7 +20,8 @@ use Rattle.model.specs.Datasets.{none, end, Dataset, tops, entries-of, entries
 use Rattle.model.specs.Files.{Placed, bytes-of, InPlace}
 use Rattle.model.specs.Rules.{top-types, Situation, situations, NeedsMet, Belongs}
 use Rattle.model.specs.Edits.{body}
-use Rattle.model.specs.Refusals.{Fault, fault, First, lines-of, byte-at, others, BreaksBook, BreaksTop, BreaksNeeds, BookRule, known, taken, aimed-right, single, needed, filled, BookKeeps, TopKeeps, BookTells, BookRefusal, Refuses, booked}
+use Rattle.model.specs.Refusals.{fault, First, lines-of, byte-at, others, BreaksBook, BreaksTop, BreaksNeeds, BookRule, known, taken, aimed-right, single, needed, filled, BookKeeps, TopKeeps, BookTells, BookRefusal, Refuses, booked}
+use Rattle.model.specs.declared.Fault.{Fault}
 use Rattle.model.specs.Positions.{within, row-at, under-at, top-at, NeedMet, KeepsAt, AllKeep, TopMet, Lacks, Finding, finding, TopAt, BrokenAt, Finds, FindsNone, Told, fault-of}
 use Rattle.model.proofs.Flat.{body-is}
 use Rattle.model.proofs.Filing.{bytes-positive}

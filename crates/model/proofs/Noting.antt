@@ -18,8 +18,10 @@ use Rattle.std.proofs.shelf.Equals.{sameBytes-decides}
 use Rattle.model.specs.Lines.{Line, Value, nothing, void, pointer, text, line-of}
 use Rattle.model.specs.Datasets.{HEAD, TRLR, CONT, CONC}
 use Rattle.model.specs.Files.{Placed, at, LastOther, IsPointer, Continues, Keeps5, Keeps6, Keeps7, Keeps8, Keeps9, Keeps10, Ordered}
-use Rattle.model.specs.Refusals.{Fault, fault, lines-of, byte-at, LineRule, levels, first, last, steps, named, continued, room, apart, aimed, line-rule-number, LineKeeps, LinesKeep, LineRefusal}
-use Rattle.model.specs.LineTurns.{Spot, spot-of, note, Noted, is-pointer, is-nothing, has-identifier, has-tag, seen-of, is-trailer, closes, Last, last-with, breaks5, breaks6, breaks8, breaks9, continues, breaks10, last-after, NoTrailer, LastIs, Notes, notes-with, notes-after, RuledIn, Ruled, Closed, closing, told, verdict, RulesKept, Verdict}
+use Rattle.model.specs.Refusals.{fault, lines-of, byte-at, LineRule, levels, first, last, steps, named, continued, room, apart, aimed, line-rule-number, LineKeeps, LinesKeep, LineRefusal}
+use Rattle.model.specs.declared.Fault.{Fault}
+use Rattle.model.specs.LineTurns.{spot-of, note, Noted, is-pointer, is-nothing, has-identifier, has-tag, seen-of, is-trailer, closes, Last, last-with, breaks5, breaks6, breaks8, breaks9, continues, breaks10, last-after, NoTrailer, LastIs, Notes, notes-with, notes-after, RuledIn, Ruled, Closed, closing, told, verdict, RulesKept, Verdict, spot}
+use Rattle.model.specs.declared.Place.{Place}
 use Rattle.model.proofs.Options.{never}
 use Rattle.model.proofs.Walking.{HEAD-line, TRLR-line, head-not-cont, head-not-conc, last-once, last-kept, last-new}
 
@@ -54,10 +56,10 @@ pub byte-new : (ps : List Placed) (p : Placed) → byte-at (ps ++ p ∷ []) (len
 byte-new ps p = ap (λ bs. getD bs (length ps) 0) (map-push (λ q. q .byte) ps p) ∙ getD-push (map (λ q. q .byte) ps) (p .byte) 0 (length ps) (length-map ps (λ q. q .byte))
 
 -- a rule that a further line leaves as it was at the places before
-pub noted-more : (P Q : ℕ → Type 0) (ps : List Placed) (p : Placed) (o : Option Spot) (b : Bool) → ((i : ℕ) → i < length ps → P i → Q i) → ((i : ℕ) → i < length ps → Q i → P i) → Tells b (Q (length ps)) → Noted P ps o → Noted Q (ps ++ p ∷ []) (note o b (length ps + 1, p .byte))
+pub noted-more : (P Q : ℕ → Type 0) (ps : List Placed) (p : Placed) (o : Option Place) (b : Bool) → ((i : ℕ) → i < length ps → P i → Q i) → ((i : ℕ) → i < length ps → Q i → P i) → Tells b (Q (length ps)) → Noted P ps o → Noted Q (ps ++ p ∷ []) (note o b (spot (length ps + 1) (p .byte)))
 noted-more P Q ps p None b to from t h = elim (cases-bool b) [
-  | inl e ↦ subst (λ c. Noted Q (ps ++ p ∷ []) (note None c (length ps + 1, p .byte))) (sym e) (length ps, record { within = omega (arith, long-push ps p); breaks = t .0 e; before = λ j l. to j l (h j l) }, λ i. (length ps + 1, sym (byte-new ps p) i))
-  | inr e ↦ subst (λ c. Noted Q (ps ++ p ∷ []) (note None c (length ps + 1, p .byte))) (sym e) (λ i l. elim (cases-lt i (length ps)) [
+  | inl e ↦ subst (λ c. Noted Q (ps ++ p ∷ []) (note None c (spot (length ps + 1) (p .byte)))) (sym e) (length ps, record { within = omega (arith, long-push ps p); breaks = t .0 e; before = λ j l. to j l (h j l) }, λ i. (spot (length ps + 1) (sym (byte-new ps p) i)))
+  | inr e ↦ subst (λ c. Noted Q (ps ++ p ∷ []) (note None c (spot (length ps + 1) (p .byte)))) (sym e) (λ i l. elim (cases-lt i (length ps)) [
     | inl k ↦ to i k (h i k)
     | inr k ↦ subst Q (let e : length ps ≡ i = omega (arith, long-push ps p) in e) (t .1 e)
   ])
@@ -65,9 +67,9 @@ noted-more P Q ps p None b to from t h = elim (cases-bool b) [
 noted-more P Q ps p (Some s) b to from t h =
     let f = h .1 in
     let l = f .within in
-    (h .0, record { within = omega (arith, long-push ps p); breaks = λ q. f .breaks (from (h .0) l q); before = λ j k. to j (omega arith) (f .before j k) }, h .2 ∙ (λ i. (h .0 + 1, byte-old ps p (h .0) l i)))
+    (h .0, record { within = omega (arith, long-push ps p); breaks = λ q. f .breaks (from (h .0) l q); before = λ j k. to j (omega arith) (f .before j k) }, h .2 ∙ (λ i. (spot (h .0 + 1) (byte-old ps p (h .0) l i))))
 
-pub note-none : (o : Option Spot) (b : Bool) (s : Spot) → note o b s ≡ None → (o ≡ None) × (b ≡ false)
+pub note-none : (o : Option Place) (b : Bool) (s : Place) → note o b s ≡ None → (o ≡ None) × (b ≡ false)
 note-none None true s e = absurd (never s (sym e))
 note-none None false s e = (refl, refl)
 note-none (Some t) b s e = absurd (never t (sym e))
@@ -282,27 +284,27 @@ module _ (ps : List Placed) (p : Placed) where
   old : Same (lines-of ps) (lines-of (ps ++ p ∷ [])) (length ps)
   old i h = at-old ps p i h
 
-  by-line : (K : Line → ℕ → Type 0) (o : Option Spot) (b : Bool) → Tells b (K (p .line) (length ps)) → Noted (λ i. K (at (lines-of ps) i) i) ps o → Noted (λ i. K (at (lines-of (ps ++ p ∷ [])) i) i) (ps ++ p ∷ []) (note o b (length ps + 1, p .byte))
+  by-line : (K : Line → ℕ → Type 0) (o : Option Place) (b : Bool) → Tells b (K (p .line) (length ps)) → Noted (λ i. K (at (lines-of ps) i) i) ps o → Noted (λ i. K (at (lines-of (ps ++ p ∷ [])) i) i) (ps ++ p ∷ []) (note o b (spot (length ps + 1) (p .byte)))
   by-line K o b t h = noted-more (λ i. K (at (lines-of ps) i) i) (λ i. K (at (lines-of (ps ++ p ∷ [])) i) i) ps p o b (λ i l k. subst (λ x. K x i) (at-old ps p i l) k) (λ i l k. subst (λ x. K x i) (sym (at-old ps p i l)) k) (to-new (λ x. Tells b (K x (length ps))) t) h
 
-  levels-more : (cap level : ℕ) (o : Option Spot) → 64 ≤ cap → level ≡ min cap (p .line .level) → Noted (Keeps5 (lines-of ps)) ps o → Noted (Keeps5 (lines-of (ps ++ p ∷ []))) (ps ++ p ∷ []) (note o (breaks5 level) (length ps + 1, p .byte))
+  levels-more : (cap level : ℕ) (o : Option Place) → 64 ≤ cap → level ≡ min cap (p .line .level) → Noted (Keeps5 (lines-of ps)) ps o → Noted (Keeps5 (lines-of (ps ++ p ∷ []))) (ps ++ p ∷ []) (note o (breaks5 level) (spot (length ps + 1) (p .byte)))
   levels-more cap level o c e h = by-line (λ x i. x .level ≤ 63) o (breaks5 level) (λ b k. omega (arith, ltb-true 63 level b), λ b. omega (arith, ltb-false 63 level b)) h
 
-  first-more : (level : ℕ) (o : Option Spot) → level ≡ p .line .level → Noted (Keeps6 (lines-of ps)) ps o → Noted (Keeps6 (lines-of (ps ++ p ∷ []))) (ps ++ p ∷ []) (note o (breaks6 (length ps) (seen-of level (p .line))) (length ps + 1, p .byte))
+  first-more : (level : ℕ) (o : Option Place) → level ≡ p .line .level → Noted (Keeps6 (lines-of ps)) ps o → Noted (Keeps6 (lines-of (ps ++ p ∷ []))) (ps ++ p ∷ []) (note o (breaks6 (length ps) (seen-of level (p .line))) (spot (length ps + 1) (p .byte)))
   first-more level o e h = by-line (λ x i. At6 i x) o (breaks6 (length ps) (seen-of level (p .line))) (subst (λ v. Tells (breaks6 (length ps) (seen-of v (p .line))) (At6 (length ps) (p .line))) (sym e) (tells6 (length ps) (p .line))) h
 
-  trailer-more : (level : ℕ) (o : Option Spot) → level ≡ p .line .level → Noted (NoTrailer (lines-of ps)) ps o → Noted (NoTrailer (lines-of (ps ++ p ∷ []))) (ps ++ p ∷ []) (note o (is-trailer (seen-of level (p .line))) (length ps + 1, p .byte))
+  trailer-more : (level : ℕ) (o : Option Place) → level ≡ p .line .level → Noted (NoTrailer (lines-of ps)) ps o → Noted (NoTrailer (lines-of (ps ++ p ∷ []))) (ps ++ p ∷ []) (note o (is-trailer (seen-of level (p .line))) (spot (length ps + 1) (p .byte)))
   trailer-more level o e h = by-line (λ x i. x .level ≡ 0 → x .tag ≡ TRLR → ⊥) o (is-trailer (seen-of level (p .line))) (subst (λ v. Tells (is-trailer (seen-of v (p .line))) (p .line .level ≡ 0 → p .line .tag ≡ TRLR → ⊥)) (sym e) (tells-trailer (p .line))) h
 
-  named-more : (level : ℕ) (o : Option Spot) → level ≡ p .line .level → Noted (Keeps9 (lines-of ps)) ps o → Noted (Keeps9 (lines-of (ps ++ p ∷ []))) (ps ++ p ∷ []) (note o (breaks9 (seen-of level (p .line))) (length ps + 1, p .byte))
+  named-more : (level : ℕ) (o : Option Place) → level ≡ p .line .level → Noted (Keeps9 (lines-of ps)) ps o → Noted (Keeps9 (lines-of (ps ++ p ∷ []))) (ps ++ p ∷ []) (note o (breaks9 (seen-of level (p .line))) (spot (length ps + 1) (p .byte)))
   named-more level o e h = by-line (λ x i. 0 < x .level → x .identifier ≡ None) o (breaks9 (seen-of level (p .line))) (subst (λ v. Tells (breaks9 (seen-of v (p .line))) (0 < p .line .level → p .line .identifier ≡ None)) (sym e) (tells9 (p .line))) h
 
-  steps-more : (level : ℕ) (l : Last) (o : Option Spot) → level ≡ p .line .level → Here (lines-of (ps ++ p ∷ [])) (length ps) l → Noted (Keeps8 (lines-of ps)) ps o → Noted (Keeps8 (lines-of (ps ++ p ∷ []))) (ps ++ p ∷ []) (note o (breaks8 l (seen-of level (p .line))) (length ps + 1, p .byte))
+  steps-more : (level : ℕ) (l : Last) (o : Option Place) → level ≡ p .line .level → Here (lines-of (ps ++ p ∷ [])) (length ps) l → Noted (Keeps8 (lines-of ps)) ps o → Noted (Keeps8 (lines-of (ps ++ p ∷ []))) (ps ++ p ∷ []) (note o (breaks8 l (seen-of level (p .line))) (spot (length ps + 1) (p .byte)))
   steps-more level l o e here h =
       let t = from-new (λ x. Tells (breaks8 l (seen-of (x .level) x)) (Keeps8 (lines-of (ps ++ p ∷ [])) (length ps))) (tells8 (lines-of (ps ++ p ∷ [])) (length ps) l here) in
       noted-more (Keeps8 (lines-of ps)) (Keeps8 (lines-of (ps ++ p ∷ []))) ps p o (breaks8 l (seen-of level (p .line))) (λ i q. keeps8-same (lines-of ps) (lines-of (ps ++ p ∷ [])) (length ps) i old q) (λ i q. keeps8-same (lines-of (ps ++ p ∷ [])) (lines-of ps) (length ps) i (same-back (lines-of ps) (lines-of (ps ++ p ∷ [])) (length ps) old) q) (subst (λ v. Tells (breaks8 l (seen-of v (p .line))) (Keeps8 (lines-of (ps ++ p ∷ [])) (length ps))) (sym e) t) h
 
-  continued-more : (level : ℕ) (l : Last) (o : Option Spot) → level ≡ p .line .level → Here (lines-of (ps ++ p ∷ [])) (length ps) l → Noted (Keeps10 (lines-of ps)) ps o → Noted (Keeps10 (lines-of (ps ++ p ∷ []))) (ps ++ p ∷ []) (note o (breaks10 l (seen-of level (p .line))) (length ps + 1, p .byte))
+  continued-more : (level : ℕ) (l : Last) (o : Option Place) → level ≡ p .line .level → Here (lines-of (ps ++ p ∷ [])) (length ps) l → Noted (Keeps10 (lines-of ps)) ps o → Noted (Keeps10 (lines-of (ps ++ p ∷ []))) (ps ++ p ∷ []) (note o (breaks10 l (seen-of level (p .line))) (spot (length ps + 1) (p .byte)))
   continued-more level l o e here h =
       let t = from-new (λ x. Tells (breaks10 l (seen-of (x .level) x)) (Keeps10 (lines-of (ps ++ p ∷ [])) (length ps))) (tells10 (lines-of (ps ++ p ∷ [])) (length ps) l here) in
       noted-more (Keeps10 (lines-of ps)) (Keeps10 (lines-of (ps ++ p ∷ []))) ps p o (breaks10 l (seen-of level (p .line))) (λ i q. keeps10-same (lines-of ps) (lines-of (ps ++ p ∷ [])) (length ps) i old q) (λ i q. keeps10-same (lines-of (ps ++ p ∷ [])) (lines-of ps) (length ps) i (same-back (lines-of ps) (lines-of (ps ++ p ∷ [])) (length ps) old) q) (subst (λ v. Tells (breaks10 l (seen-of v (p .line))) (Keeps10 (lines-of (ps ++ p ∷ [])) (length ps))) (sym e) t) h
@@ -330,17 +332,17 @@ module _ (ps : List Placed) (p : Placed) where
         continued = continued-more level o (s .continued) e here (r .continued);
       }
 
-  first-kept : (level : ℕ) (o : Option Spot) → level ≡ p .line .level → Noted (Keeps6 (lines-of ps)) ps o → note o (breaks6 (length ps) (seen-of level (p .line))) (length ps + 1, p .byte) ≡ None → Keeps6 (lines-of (ps ++ p ∷ [])) (length ps)
+  first-kept : (level : ℕ) (o : Option Place) → level ≡ p .line .level → Noted (Keeps6 (lines-of ps)) ps o → note o (breaks6 (length ps) (seen-of level (p .line))) (spot (length ps + 1) (p .byte)) ≡ None → Keeps6 (lines-of (ps ++ p ∷ [])) (length ps)
   first-kept level o e h n = subst (Noted (Keeps6 (lines-of (ps ++ p ∷ []))) (ps ++ p ∷ [])) n (first-more level o e h) (length ps) (omega (arith, long-push ps p))
 
   pub ruled-more : (cap level : ℕ) (o : Last) (s : Notes) → 64 ≤ cap → level ≡ min cap (p .line .level) → Ruled ps o s → Ruled (ps ++ p ∷ []) (last-after (length ps) o (seen-of level (p .line))) (notes-after (length ps) (p .byte) o (seen-of level (p .line)) s)
   ruled-more cap level o s c e r = record {
     levels = levels-more cap level (s .levels) c e (r .levels);
-    first = λ n. let (a, b) = note-none (s .levels) (breaks5 level) (length ps + 1, p .byte) n in first-more level (s .first) (line-levels cap level (p .line .level) c e b) (r .first a);
+    first = λ n. let (a, b) = note-none (s .levels) (breaks5 level) (spot (length ps + 1) (p .byte)) n in first-more level (s .first) (line-levels cap level (p .line .level) c e b) (r .first a);
     inner = λ n m.
-        let (a, b) = note-none (s .levels) (breaks5 level) (length ps + 1, p .byte) n in
+        let (a, b) = note-none (s .levels) (breaks5 level) (spot (length ps + 1) (p .byte)) n in
         let exact = line-levels cap level (p .line .level) c e b in
-        inner-more level o s exact (first-kept level (s .first) exact (r .first a) m) (r .inner a (note-none (s .first) (breaks6 (length ps) (seen-of level (p .line))) (length ps + 1, p .byte) m .0));
+        inner-more level o s exact (first-kept level (s .first) exact (r .first a) m) (r .inner a (note-none (s .first) (breaks6 (length ps) (seen-of level (p .line))) (spot (length ps + 1) (p .byte)) m .0));
   }
 
 -- no line so far
@@ -353,7 +355,7 @@ ruled-start o = record {
 
 -- The last line
 
-pub closed-more : (cap level : ℕ) (ps : List Placed) (p : Placed) → 1 ≤ cap → level ≡ min cap (p .line .level) → Closed (ps ++ p ∷ []) (closes (seen-of level (p .line))) (length ps + 1, p .byte)
+pub closed-more : (cap level : ℕ) (ps : List Placed) (p : Placed) → 1 ≤ cap → level ≡ min cap (p .line .level) → Closed (ps ++ p ∷ []) (closes (seen-of level (p .line))) (spot (length ps + 1) (p .byte))
 closed-more cap level ps p c e =
     let n : length (ps ++ p ∷ []) - 1 ≡ length ps = omega (arith, long-push ps p) in
     let zeroth : eqb level 0 ≡ eqb (p .line .level) 0 = grind (arith, tells) in
@@ -363,13 +365,13 @@ closed-more cap level ps p c e =
     record {
       is = λ t. there ∙ d .0 (sym same ∙ t);
       only = λ h. same ∙ d .1 (sym there ∙ h);
-      there = (λ i. (length ps + 1, sym (byte-new ps p) i)) ∙ ap (spot-of (ps ++ p ∷ [])) (sym n);
+      there = (λ i. (spot (length ps + 1) (sym (byte-new ps p) i))) ∙ ap (spot-of (ps ++ p ∷ [])) (sym n);
     }
 
 keeps7-before : (ls : List Line) (i : ℕ) → i + 1 < length ls → NoTrailer ls i → Keeps7 ls i
 keeps7-before ls i h k = (λ e. absurd (omega arith), λ l. k)
 
-pub closing-noted : (ps : List Placed) (exact : Bool) (here : Spot) (o : Option Spot) → 0 < length ps → Closed ps exact here → Noted (NoTrailer (lines-of ps)) ps o → Noted (Keeps7 (lines-of ps)) ps (closing o exact here)
+pub closing-noted : (ps : List Placed) (exact : Bool) (here : Place) (o : Option Place) → 0 < length ps → Closed ps exact here → Noted (NoTrailer (lines-of ps)) ps o → Noted (Keeps7 (lines-of ps)) ps (closing o exact here)
 closing-noted ps exact here None some c h =
     let long = length-map ps (λ q. q .line) in
     let n : ℕ = length ps - 1 in (
@@ -387,11 +389,11 @@ closing-noted ps exact here (Some s) some c h =
     let i : ℕ = h .0 in
     let f = h .1 in
     let w = f .within in
-    let line : s .0 ≡ i + 1 = ap (λ (q : Spot). q .0) (h .2) in
-    let end : here .0 ≡ n + 1 = ap (λ (q : Spot). q .0) (c .there) in
-    cond-both (ltb (s .0) (here .0)) (Some s) (cond exact None (Some here)) (Noted (Keeps7 (lines-of ps)) ps)
-    (λ e. let less = ltb-true (s .0) (here .0) e in (i, record { within = w; breaks = λ k. f .breaks (k .1 (omega arith)); before = λ j l. keeps7-before (lines-of ps) j (omega arith) (f .before j l) }, h .2))
-    (λ e. let least = ltb-false (s .0) (here .0) e in let up : i ≡ n = omega arith in cond-both exact None (Some here) (Noted (Keeps7 (lines-of ps)) ps)
+    let line : s .line ≡ i + 1 = ap (λ (q : Place). q .line) (h .2) in
+    let end : here .line ≡ n + 1 = ap (λ (q : Place). q .line) (c .there) in
+    cond-both (ltb (s .line) (here .line)) (Some s) (cond exact None (Some here)) (Noted (Keeps7 (lines-of ps)) ps)
+    (λ e. let less = ltb-true (s .line) (here .line) e in (i, record { within = w; breaks = λ k. f .breaks (k .1 (omega arith)); before = λ j l. keeps7-before (lines-of ps) j (omega arith) (f .before j l) }, h .2))
+    (λ e. let least = ltb-false (s .line) (here .line) e in let up : i ≡ n = omega arith in cond-both exact None (Some here) (Noted (Keeps7 (lines-of ps)) ps)
     (λ t j l. elim (cases-lt j n) [
       | inl q ↦ keeps7-before (lines-of ps) j (omega arith) (f .before j (omega arith))
       | inr q ↦ (λ a. subst (λ k. at (lines-of ps) k ≡ TRLR-line) (let z : n ≡ j = omega arith in z) (c .is t), λ a. absurd (omega arith))
@@ -400,8 +402,8 @@ closing-noted ps exact here (Some s) some c h =
 
 -- The end
 
-pub refusal : (r : LineRule) (cards : ℕ) (ps : List Placed) (s : Spot) → Noted (LineKeeps r cards ps) ps (Some s) → ((q : LineRule) → line-rule-number q < line-rule-number r → LinesKeep q cards ps) → LineRefusal cards ps (fault (line-rule-number r) (s .0) (s .1))
-refusal r cards ps s h k = record { rule = r; earlier = k; breaks = record { place = h .0; first = h .1; told = ap (λ (q : Spot). fault (line-rule-number r) (q .0) (q .1)) (h .2) } }
+pub refusal : (r : LineRule) (cards : ℕ) (ps : List Placed) (s : Place) → Noted (LineKeeps r cards ps) ps (Some s) → ((q : LineRule) → line-rule-number q < line-rule-number r → LinesKeep q cards ps) → LineRefusal cards ps (fault (line-rule-number r) (s .line) (s .byte))
+refusal r cards ps s h k = record { rule = r; earlier = k; breaks = record { place = h .0; first = h .1; told = ap (λ (q : Place). fault (line-rule-number r) (q .line) (q .byte)) (h .2) } }
 
 rule-of : ℕ → LineRule
 rule-of n = cond (eqb n 5) levels (cond (eqb n 6) first (cond (eqb n 7) last (cond (eqb n 8) steps (cond (eqb n 9) named (cond (eqb n 10) continued (cond (eqb n 11) room (cond (eqb n 12) apart aimed)))))))
@@ -454,12 +456,12 @@ pub kept-all : (cards : ℕ) (ps : List Placed) → RulesKept 14 cards ps → (r
 kept-all cards ps k r = k r (highest r)
 
 -- one rule more is asked of lines that keep those before it
-pub told-next : (k m : ℕ) (rule : LineRule) (cards : ℕ) (ps : List Placed) (o : Option Spot) (rest : Option Fault) → line-rule-number rule ≡ k → RulesKept k cards ps → Noted (LineKeeps rule cards ps) ps o → (o ≡ None → RulesKept (k + 1) cards ps → Verdict m cards ps rest) → Verdict m cards ps (told k o rest)
+pub told-next : (k m : ℕ) (rule : LineRule) (cards : ℕ) (ps : List Placed) (o : Option Place) (rest : Option Fault) → line-rule-number rule ≡ k → RulesKept k cards ps → Noted (LineKeeps rule cards ps) ps o → (o ≡ None → RulesKept (k + 1) cards ps → Verdict m cards ps rest) → Verdict m cards ps (told k o rest)
 told-next k m rule cards ps None rest e kept h more = more refl (kept-next k rule cards ps e kept h)
-told-next k m rule cards ps (Some s) rest e kept h more = subst (λ n. LineRefusal cards ps (fault n (s .0) (s .1))) e (refusal rule cards ps s h (subst (λ n. RulesKept n cards ps) (sym e) kept))
+told-next k m rule cards ps (Some s) rest e kept h more = subst (λ n. LineRefusal cards ps (fault n (s .line) (s .byte))) e (refusal rule cards ps s h (subst (λ n. RulesKept n cards ps) (sym e) kept))
 
 -- the lines keep the rules 5 to 10, and more is asked of them; or the lowest that they do not is told, with the first line that breaks it
-pub ruled-verdict : (m cards : ℕ) (ps : List Placed) (o : Last) (s : Notes) (exact : Bool) (here : Spot) (rest : Option Fault) → 0 < length ps → Ruled ps o s → Closed ps exact here → (RulesKept 11 cards ps → Verdict m cards ps rest) → Verdict m cards ps (verdict s exact here rest)
+pub ruled-verdict : (m cards : ℕ) (ps : List Placed) (o : Last) (s : Notes) (exact : Bool) (here : Place) (rest : Option Fault) → 0 < length ps → Ruled ps o s → Closed ps exact here → (RulesKept 11 cards ps → Verdict m cards ps rest) → Verdict m cards ps (verdict s exact here rest)
 ruled-verdict m cards ps o s exact here rest some r c more =
     told-next 5 m levels cards ps (s .levels) (told 6 (s .first) (told 7 (closing (s .trailer) exact here) (told 8 (s .steps) (told 9 (s .named) (told 10 (s .continued) rest))))) refl (kept-start cards ps) (r .levels) (λ e5 k6.
     told-next 6 m first cards ps (s .first) (told 7 (closing (s .trailer) exact here) (told 8 (s .steps) (told 9 (s .named) (told 10 (s .continued) rest)))) refl k6 (r .first e5) (λ e6 k7.

@@ -19,7 +19,8 @@ use Rattle.model.specs.Datasets.{Dataset, MARK, lines}
 use Rattle.model.specs.Books.{Meaning}
 use Rattle.model.specs.Files.{LineEnd, Placed, GoodPlaced, bytes-of, all-bytes, InPlace, Lined, Throughout, Ordered}
 use Rattle.model.specs.Rules.{Situation, situations, Belongs}
-use Rattle.model.specs.Refusals.{Fault, BannedAt, Starts, NoLine, EndsWhole, Unlined, lines-of, others, Keeps12, Keeps13, BreaksBook, LineRule, levels, first, last, steps, named, continued, room, apart, aimed, LineKeeps, BookRule, known, taken, aimed-right, single, needed, filled, BookTells, Refuses, too-long, malformed, forbidden, unlined, lined, booked}
+use Rattle.model.specs.Refusals.{BannedAt, Starts, NoLine, EndsWhole, Unlined, lines-of, others, Keeps12, Keeps13, BreaksBook, LineRule, levels, first, last, steps, named, continued, room, apart, aimed, LineKeeps, BookRule, known, taken, aimed-right, single, needed, filled, BookTells, Refuses, too-long, malformed, forbidden, unlined, lined, booked}
+use Rattle.model.specs.declared.Fault.{Fault}
 use Rattle.model.specs.Runs.{ReadsAs}
 use Rattle.model.proofs.Parts.{Begins, clash}
 use Rattle.model.proofs.Names.{every-right}

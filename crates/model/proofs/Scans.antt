@@ -19,8 +19,10 @@ use Rattle.model.specs.Scan.{front, parse, in-line}
 use Rattle.model.specs.Datasets.{CONT}
 use Rattle.model.specs.Books.{Meaning}
 use Rattle.model.specs.Files.{Placed, Lined}
-use Rattle.model.specs.Refusals.{Fault, fault, Short, lines-of, others-from, others, Keeps11, room, Refuses, lined}
-use Rattle.model.specs.LineTurns.{Spot, note, Noted, has-tag, Seen, seen-of, closes, is-marked, Last, last-after, Notes, notes-with, notes-after, line-end, next-line, found-at, Scanned, told, verdict, RulesKept, Verdict, breaks11, count-after, Turn}
+use Rattle.model.specs.Refusals.{fault, Short, lines-of, others-from, others, Keeps11, room, Refuses, lined}
+use Rattle.model.specs.declared.Fault.{Fault}
+use Rattle.model.specs.LineTurns.{note, Noted, has-tag, Seen, seen-of, closes, is-marked, Last, last-after, Notes, notes-with, notes-after, line-end, next-line, found-at, Scanned, told, verdict, RulesKept, Verdict, breaks11, count-after, Turn, spot}
+use Rattle.model.specs.declared.Place.{Place}
 use Rattle.model.proofs.Answering.{others-within}
 use Rattle.model.proofs.Noting.{noted-more, ruled-more, ruled-start, ruled-verdict, closed-more, long-push, told-next}
 use Rattle.model.proofs.Reading.{card-of, filed}
@@ -96,19 +98,19 @@ module _ (cards : ℕ) (ps : List Placed) (p : Placed) where
     ]
   ]
 
-  pub room-more : (count : ℕ) (o : Option Spot) → count ≡ length (others ps) → Noted (Keeps11 cards ps) ps o → Noted (Keeps11 cards (ps ++ p ∷ [])) (ps ++ p ∷ []) (note o (breaks11 cards count (seen-of 0 (p .line))) (length ps + 1, p .byte))
+  pub room-more : (count : ℕ) (o : Option Place) → count ≡ length (others ps) → Noted (Keeps11 cards ps) ps o → Noted (Keeps11 cards (ps ++ p ∷ [])) (ps ++ p ∷ []) (note o (breaks11 cards count (seen-of 0 (p .line))) (spot (length ps + 1) (p .byte)))
   room-more count o e h = noted-more (Keeps11 cards ps) (Keeps11 cards (ps ++ p ∷ [])) ps p o (breaks11 cards count (seen-of 0 (p .line))) room-old room-back (room-full count e, room-left count e) h
 
 -- The loop
 
-turn-begin : (file : List ℕ) (cards i : ℕ) (o : Last) (exact : Bool) (here : Spot) → Scanned file [] i → Turn file cards [] i 0 0 o (notes-with None None None None None None) None exact here
+turn-begin : (file : List ℕ) (cards i : ℕ) (o : Last) (exact : Bool) (here : Place) → Scanned file [] i → Turn file cards [] i 0 0 o (notes-with None None None None None None) None exact here
 turn-begin file cards i o exact here s = record { scanned = s; numbered = refl; counted = refl; short = omega arith; fewer = omega arith; ruled = ruled-start o; room = λ i h. absurd (omega arith); closed = λ h. absurd (omega arith) }
 
-pub turn-start : (file : List ℕ) (cards i : ℕ) (o : Last) (exact : Bool) (here : Spot) (b : Bool) → Clean file → b ≡ is-marked file → i ≡ cond b 3 0 → Turn file cards [] i 0 0 o (notes-with None None None None None None) None exact here
+pub turn-start : (file : List ℕ) (cards i : ℕ) (o : Last) (exact : Bool) (here : Place) (b : Bool) → Clean file → b ≡ is-marked file → i ≡ cond b 3 0 → Turn file cards [] i 0 0 o (notes-with None None None None None None) None exact here
 turn-start file cards i o exact here true k e h = turn-begin file cards i o exact here (subst (Scanned file []) (sym h) (scanned-marked file k (marked-decides file .0 (sym e))))
 turn-start file cards i o exact here false k e h = turn-begin file cards i o exact here (subst (Scanned file []) (sym h) (scanned-start file k (not-from-decides (is-marked file) (marked-decides file) (sym e))))
 
-turn-moved : (file : List ℕ) (cards : ℕ) (ps : List Placed) (i lines count : ℕ) (o : Last) (s : Notes) (over : Option Spot) (exact : Bool) (here : Spot) (l : Line) (cap level : ℕ) → Turn file cards ps i lines count o s over exact here → line-end file i < length file → parse (front in-line (drop i file)) ≡ Some l → 64 ≤ cap → level ≡ min cap (l .level) → Turn file cards (ps ++ found-at file i l ∷ []) (next-line file (line-end file i)) (length ps + 1) (count-after count (seen-of level l)) (last-after (length ps) o (seen-of level l)) (notes-after (length ps) i o (seen-of level l) s) (note over (breaks11 cards count (seen-of level l)) (length ps + 1, i)) (closes (seen-of level l)) (length ps + 1, i)
+turn-moved : (file : List ℕ) (cards : ℕ) (ps : List Placed) (i lines count : ℕ) (o : Last) (s : Notes) (over : Option Place) (exact : Bool) (here : Place) (l : Line) (cap level : ℕ) → Turn file cards ps i lines count o s over exact here → line-end file i < length file → parse (front in-line (drop i file)) ≡ Some l → 64 ≤ cap → level ≡ min cap (l .level) → Turn file cards (ps ++ found-at file i l ∷ []) (next-line file (line-end file i)) (length ps + 1) (count-after count (seen-of level l)) (last-after (length ps) o (seen-of level l)) (notes-after (length ps) i o (seen-of level l) s) (note over (breaks11 cards count (seen-of level l)) (spot (length ps + 1) i)) (closes (seen-of level l)) (spot (length ps + 1) i)
 turn-moved file cards ps i lines count o s over exact here l cap level t h is c e =
     let p : Placed = found-at file i l in
     record {
@@ -123,40 +125,40 @@ turn-moved file cards ps i lines count o s over exact here l cap level t h is c 
     }
 
 -- one line more, of which v was seen
-pub turn-more : (file : List ℕ) (cards : ℕ) (ps : List Placed) (i lines count : ℕ) (o : Last) (s : Notes) (over : Option Spot) (exact : Bool) (here : Spot) (l : Line) (cap : ℕ) (v : Seen) → Turn file cards ps i lines count o s over exact here → line-end file i < length file → parse (front in-line (drop i file)) ≡ Some l → 64 ≤ cap → v ≡ seen-of (min cap (l .level)) l → Turn file cards (ps ++ found-at file i l ∷ []) (next-line file (line-end file i)) (lines + 1) (count-after count v) (last-after lines o v) (notes-after lines i o v s) (note over (breaks11 cards count v) (lines + 1, i)) (closes v) (lines + 1, i)
+pub turn-more : (file : List ℕ) (cards : ℕ) (ps : List Placed) (i lines count : ℕ) (o : Last) (s : Notes) (over : Option Place) (exact : Bool) (here : Place) (l : Line) (cap : ℕ) (v : Seen) → Turn file cards ps i lines count o s over exact here → line-end file i < length file → parse (front in-line (drop i file)) ≡ Some l → 64 ≤ cap → v ≡ seen-of (min cap (l .level)) l → Turn file cards (ps ++ found-at file i l ∷ []) (next-line file (line-end file i)) (lines + 1) (count-after count v) (last-after lines o v) (notes-after lines i o v s) (note over (breaks11 cards count v) (spot (lines + 1) i)) (closes v) (spot (lines + 1) i)
 turn-more file cards ps i lines count o s over exact here l cap v t h is c e =
     let moved = turn-moved file cards ps i lines count o s over exact here l cap (min cap (l .level)) t h is c refl in
-    subst (λ x. Turn file cards (ps ++ found-at file i l ∷ []) (next-line file (line-end file i)) (lines + 1) (count-after count x) (last-after lines o x) (notes-after lines i o x s) (note over (breaks11 cards count x) (lines + 1, i)) (closes x) (lines + 1, i)) (sym e)
-    (subst (λ n. Turn file cards (ps ++ found-at file i l ∷ []) (next-line file (line-end file i)) (n + 1) (count-after count (seen-of (min cap (l .level)) l)) (last-after n o (seen-of (min cap (l .level)) l)) (notes-after n i o (seen-of (min cap (l .level)) l) s) (note over (breaks11 cards count (seen-of (min cap (l .level)) l)) (n + 1, i)) (closes (seen-of (min cap (l .level)) l)) (n + 1, i)) (sym (t .numbered)) moved)
+    subst (λ x. Turn file cards (ps ++ found-at file i l ∷ []) (next-line file (line-end file i)) (lines + 1) (count-after count x) (last-after lines o x) (notes-after lines i o x s) (note over (breaks11 cards count x) (spot (lines + 1) i)) (closes x) (spot (lines + 1) i)) (sym e)
+    (subst (λ n. Turn file cards (ps ++ found-at file i l ∷ []) (next-line file (line-end file i)) (n + 1) (count-after count (seen-of (min cap (l .level)) l)) (last-after n o (seen-of (min cap (l .level)) l)) (notes-after n i o (seen-of (min cap (l .level)) l) s) (note over (breaks11 cards count (seen-of (min cap (l .level)) l)) (spot (n + 1) i)) (closes (seen-of (min cap (l .level)) l)) (spot (n + 1) i)) (sym (t .numbered)) moved)
 
 -- the same, by what the code has found
-pub turn-step : (file : List ℕ) (cards : ℕ) (ps : List Placed) (i lines count : ℕ) (o : Last) (s : Notes) (over : Option Spot) (exact : Bool) (here : Spot) (l : Line) (cap : ℕ) (v : Seen) (i′ lines′ count′ : ℕ) (o′ : Last) (s′ : Notes) (over′ : Option Spot) (exact′ : Bool) (here′ : Spot) → Turn file cards ps i lines count o s over exact here → line-end file i < length file → parse (front in-line (drop i file)) ≡ Some l → 64 ≤ cap → v ≡ seen-of (min cap (l .level)) l → i′ ≡ next-line file (line-end file i) → lines′ ≡ lines + 1 → count′ ≡ count-after count v → o′ ≡ last-after lines o v → s′ ≡ notes-after lines i o v s → over′ ≡ note over (breaks11 cards count v) (lines + 1, i) → exact′ ≡ closes v → here′ ≡ (lines + 1, i) → Turn file cards (ps ++ found-at file i l ∷ []) i′ lines′ count′ o′ s′ over′ exact′ here′
+pub turn-step : (file : List ℕ) (cards : ℕ) (ps : List Placed) (i lines count : ℕ) (o : Last) (s : Notes) (over : Option Place) (exact : Bool) (here : Place) (l : Line) (cap : ℕ) (v : Seen) (i′ lines′ count′ : ℕ) (o′ : Last) (s′ : Notes) (over′ : Option Place) (exact′ : Bool) (here′ : Place) → Turn file cards ps i lines count o s over exact here → line-end file i < length file → parse (front in-line (drop i file)) ≡ Some l → 64 ≤ cap → v ≡ seen-of (min cap (l .level)) l → i′ ≡ next-line file (line-end file i) → lines′ ≡ lines + 1 → count′ ≡ count-after count v → o′ ≡ last-after lines o v → s′ ≡ notes-after lines i o v s → over′ ≡ note over (breaks11 cards count v) (spot (lines + 1) i) → exact′ ≡ closes v → here′ ≡ (spot (lines + 1) i) → Turn file cards (ps ++ found-at file i l ∷ []) i′ lines′ count′ o′ s′ over′ exact′ here′
 turn-step file cards ps i lines count o s over exact here l cap v i′ lines′ count′ o′ s′ over′ exact′ here′ t h is c e ei el ec eo es ev ex eh =
     transport (λ k. Turn file cards (ps ++ found-at file i l ∷ []) (sym ei k) (sym el k) (sym ec k) (sym eo k) (sym es k) (sym ev k) (sym ex k) (sym eh k)) (turn-more file cards ps i lines count o s over exact here l cap v t h is c e)
 
 -- rule 4
-pub turn-spelled : (m : Meaning) (file : List ℕ) (cards : ℕ) (ps : List Placed) (i lines count : ℕ) (o : Last) (s : Notes) (over : Option Spot) (exact : Bool) (here : Spot) → Short file → Clean file → Turn file cards ps i lines count o s over exact here → i < length file → parse (front in-line (drop i file)) ≡ None → Refuses m file cards (fault 4 (lines + 1) i)
+pub turn-spelled : (m : Meaning) (file : List ℕ) (cards : ℕ) (ps : List Placed) (i lines count : ℕ) (o : Last) (s : Notes) (over : Option Place) (exact : Bool) (here : Place) → Short file → Clean file → Turn file cards ps i lines count o s over exact here → i < length file → parse (front in-line (drop i file)) ≡ None → Refuses m file cards (fault 4 (lines + 1) i)
 turn-spelled m file cards ps i lines count o s over exact here short k t h e = subst (λ n. Refuses m file cards (fault 4 (n + 1) i)) (sym (t .numbered)) (refused-spelled m file cards ps i short k (t .scanned) h e)
 
-pub turn-ended : (m : Meaning) (file : List ℕ) (cards : ℕ) (ps : List Placed) (i lines count : ℕ) (o : Last) (s : Notes) (over : Option Spot) (exact : Bool) (here : Spot) → Short file → Clean file → Turn file cards ps i lines count o s over exact here → i < length file → length file ≤ line-end file i → Refuses m file cards (fault 4 (lines + 1) i)
+pub turn-ended : (m : Meaning) (file : List ℕ) (cards : ℕ) (ps : List Placed) (i lines count : ℕ) (o : Last) (s : Notes) (over : Option Place) (exact : Bool) (here : Place) → Short file → Clean file → Turn file cards ps i lines count o s over exact here → i < length file → length file ≤ line-end file i → Refuses m file cards (fault 4 (lines + 1) i)
 turn-ended m file cards ps i lines count o s over exact here short k t h e = subst (λ n. Refuses m file cards (fault 4 (n + 1) i)) (sym (t .numbered)) (refused-ended m file cards ps i short k (t .scanned) h e)
 
-pub turn-bare : (m : Meaning) (file : List ℕ) (cards : ℕ) (ps : List Placed) (i lines count : ℕ) (o : Last) (s : Notes) (over : Option Spot) (exact : Bool) (here : Spot) → Short file → Clean file → Turn file cards ps i lines count o s over exact here → length file ≤ i → lines ≡ 0 → Refuses m file cards (fault 4 1 i)
+pub turn-bare : (m : Meaning) (file : List ℕ) (cards : ℕ) (ps : List Placed) (i lines count : ℕ) (o : Last) (s : Notes) (over : Option Place) (exact : Bool) (here : Place) → Short file → Clean file → Turn file cards ps i lines count o s over exact here → length file ≤ i → lines ≡ 0 → Refuses m file cards (fault 4 1 i)
 turn-bare m file cards ps i lines count o s over exact here short k t h z =
     let none : ps ≡ [] = Rattle.std.proofs.shelf.Lists.nil-from-length ps (sym (t .numbered) ∙ z) in
     refused-bare m file cards i short k (subst (λ qs. Scanned file qs i) none (t .scanned)) h
 
 -- the rules 5 to 11
-pub turn-lined : (file : List ℕ) (cards : ℕ) (ps : List Placed) (i lines count : ℕ) (o : Last) (s : Notes) (over : Option Spot) (exact : Bool) (here : Spot) → Turn file cards ps i lines count o s over exact here → length file ≤ i → Lined file ps
+pub turn-lined : (file : List ℕ) (cards : ℕ) (ps : List Placed) (i lines count : ℕ) (o : Last) (s : Notes) (over : Option Place) (exact : Bool) (here : Place) → Turn file cards ps i lines count o s over exact here → length file ≤ i → Lined file ps
 turn-lined file cards ps i lines count o s over exact here t h = scanned-lined file ps i (t .scanned) h
 
-pub turn-verdict : (file : List ℕ) (cards : ℕ) (ps : List Placed) (i lines count : ℕ) (o : Last) (s : Notes) (over : Option Spot) (exact : Bool) (here : Spot) → Turn file cards ps i lines count o s over exact here → 0 < lines → Verdict 12 cards ps (verdict s exact here (told 11 over None))
+pub turn-verdict : (file : List ℕ) (cards : ℕ) (ps : List Placed) (i lines count : ℕ) (o : Last) (s : Notes) (over : Option Place) (exact : Bool) (here : Place) → Turn file cards ps i lines count o s over exact here → 0 < lines → Verdict 12 cards ps (verdict s exact here (told 11 over None))
 turn-verdict file cards ps i lines count o s over exact here t h =
     let some : 0 < length ps = omega (arith, t .numbered) in
     ruled-verdict 12 cards ps o s exact here (told 11 over None) some (t .ruled) (t .closed some) (λ k. told-next 11 12 room cards ps over None refl k (t .room) (λ e kept. kept))
 
-pub turn-refused : (m : Meaning) (file : List ℕ) (cards : ℕ) (ps : List Placed) (i lines count : ℕ) (o : Last) (s : Notes) (over : Option Spot) (exact : Bool) (here : Spot) (f : Fault) → Short file → Clean file → Turn file cards ps i lines count o s over exact here → length file ≤ i → 0 < lines → verdict s exact here (told 11 over None) ≡ Some f → Refuses m file cards f
+pub turn-refused : (m : Meaning) (file : List ℕ) (cards : ℕ) (ps : List Placed) (i lines count : ℕ) (o : Last) (s : Notes) (over : Option Place) (exact : Bool) (here : Place) (f : Fault) → Short file → Clean file → Turn file cards ps i lines count o s over exact here → length file ≤ i → 0 < lines → verdict s exact here (told 11 over None) ≡ Some f → Refuses m file cards f
 turn-refused m file cards ps i lines count o s over exact here f short k t h some e = lined ps short k (turn-lined file cards ps i lines count o s over exact here t h) (subst (Verdict 12 cards ps) e (turn-verdict file cards ps i lines count o s over exact here t some))
 
-pub turn-kept : (file : List ℕ) (cards : ℕ) (ps : List Placed) (i lines count : ℕ) (o : Last) (s : Notes) (over : Option Spot) (exact : Bool) (here : Spot) → Turn file cards ps i lines count o s over exact here → 0 < lines → verdict s exact here (told 11 over None) ≡ None → RulesKept 12 cards ps
+pub turn-kept : (file : List ℕ) (cards : ℕ) (ps : List Placed) (i lines count : ℕ) (o : Last) (s : Notes) (over : Option Place) (exact : Bool) (here : Place) → Turn file cards ps i lines count o s over exact here → 0 < lines → verdict s exact here (told 11 over None) ≡ None → RulesKept 12 cards ps
 turn-kept file cards ps i lines count o s over exact here t some e = subst (Verdict 12 cards ps) e (turn-verdict file cards ps i lines count o s over exact here t some)

@@ -15,7 +15,8 @@ use Rattle.model.specs.Books.{Meaning, Lawful}
 use Rattle.model.specs.Rules.{Belongs}
 use Rattle.model.specs.Cards.{Holds}
 use Rattle.model.specs.Removal.{card-count}
-use Rattle.model.specs.Refusals.{Fault, Refuses}
+use Rattle.model.specs.Refusals.{Refuses}
+use Rattle.model.specs.declared.Fault.{Fault}
 use Rattle.model.specs.Runs.{ReadsAs, Plain, PlainRead, PlainStep, Reply, refused, number, reply, after-removal, written-over}
 use Rattle.model.specs.Calls.{Event, Removing, Viewing, Performs, performs, buffer-after}
 use Rattle.model.specs.Laws.{Chain, Answered, Runs, Shows, ReadsBack, Faithful, BelongsKept, WrittenHasLines}

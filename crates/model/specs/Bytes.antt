@@ -10,7 +10,7 @@ use Rattle.std.specs.declared.option.Option.the-variants.{Some, None}
 use Rattle.std.specs.Text.{Utf8}
 use Rattle.model.specs.Characters.{Clean}
 use Rattle.model.specs.Refusals.{BannedAt, ends-before, line-at}
-use Rattle.model.specs.LineTurns.{Spot}
+use Rattle.model.specs.declared.Place.{Place}
 
 -- how many bytes a character has that begins with this one; 0 where none does
 abbrev pub lead-length : ℕ → ℕ
@@ -39,12 +39,12 @@ abbrev pub banned-at : List ℕ → ℕ → Bool
 banned-at file i = is-banned (getD file i 0) (getD file (i + 1) 0) (getD file (i + 2) 0)
 
 -- no banned character begins before the byte i; or the first does here
-abbrev pub Allowed : List ℕ → ℕ → Option Spot → Type 0
+abbrev pub Allowed : List ℕ → ℕ → Option Place → Type 0
 Allowed file i None = Clean (take i file)
-Allowed file i (Some s) = BannedAt file (s .1) × (s .0 ≡ line-at file (s .1))
+Allowed file i (Some s) = BannedAt file (s .byte) × (s .line ≡ line-at file (s .byte))
 
 -- the first i bytes are characters, with so many line ends, and the first banned one is noted
-pub record Checked (file : List ℕ) (i ends : ℕ) (o : Option Spot) : Type 0 where
+pub record Checked (file : List ℕ) (i ends : ℕ) (o : Option Place) : Type 0 where
   pub within : i ≤ length file
   pub counted : ends ≡ ends-before file i
   pub few : ends ≤ i

@@ -20,7 +20,8 @@ use Rattle.model.specs.Rules.{Belongs}
 use Rattle.model.specs.Cards.{Holds, Blanks, blank}
 use Rattle.model.specs.Removal.{card-count}
 use Rattle.model.specs.Edits.{drawer-after}
-use Rattle.model.specs.Refusals.{Fault, Refuses}
+use Rattle.model.specs.Refusals.{Refuses}
+use Rattle.model.specs.declared.Fault.{Fault}
 use Rattle.model.specs.Runs.{ReadsAs, Reply, refused, unread, number, reply, after-removal, remove-reply, written-over}
 
 -- a call with the buffer that it was given, its answer, and what the buffer then held

@@ -10,7 +10,8 @@ use Rattle.std.specs.declared.option.Option.the-variants.{Some, None}
 use Rattle.model.specs.Lines.{Line}
 use Rattle.model.specs.Files.{Placed, at}
 use Rattle.model.specs.Refusals.{First, lines-of, others}
-use Rattle.model.specs.LineTurns.{Spot, spot-of}
+use Rattle.model.specs.LineTurns.{spot-of}
+use Rattle.model.specs.declared.Place.{Place}
 
 -- card k is that of the k-th line that is no continuation
 abbrev pub place-of : List Placed → ℕ → ℕ
@@ -19,7 +20,7 @@ place-of ps k = getD (others ps) k 0
 abbrev pub card-line : List Placed → ℕ → Line
 card-line ps k = at (lines-of ps) (place-of ps k)
 
-abbrev pub card-spot : List Placed → Option ℕ → Option Spot
+abbrev pub card-spot : List Placed → Option ℕ → Option Place
 card-spot ps None = None
 card-spot ps (Some k) = Some (spot-of ps (place-of ps k))
 

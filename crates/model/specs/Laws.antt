@@ -17,7 +17,8 @@ use Rattle.model.specs.Rules.{Belongs}
 use Rattle.model.specs.Cards.{Holds, Blanks}
 use Rattle.model.specs.Removal.{removed, settled, card-count}
 use Rattle.model.specs.Runs.{Plain, PlainStep, Reply, refused, unread, number, opened, seen, line, reply, ReadsAs, after-removal}
-use Rattle.model.specs.Refusals.{Fault, Refuses}
+use Rattle.model.specs.Refusals.{Refuses}
+use Rattle.model.specs.declared.Fault.{Fault}
 use Rattle.model.specs.Calls.{Event, buffer-after, performs}
 
 -- what one call does, as the contract of the call that performs any of them says it

@@ -12,12 +12,14 @@ use Rattle.std.specs.declared.option.Option.the-variants.{Some, None}
 use Rattle.std.specs.shelf.Lists.{leading}
 use Rattle.std.specs.Vec.{Every}
 use Rattle.std.specs.shelf.Text.{sameBytes}
+use Rattle.model.specs.declared.Place.{Place}
 use Rattle.model.specs.Characters.{Clean}
 use Rattle.model.specs.Lines.{Line, Value, nothing, void, pointer, text, line-of}
 use Rattle.model.specs.Scan.{in-line}
 use Rattle.model.specs.Datasets.{MARK, HEAD, TRLR, CONT, CONC}
 use Rattle.model.specs.Files.{Placed, GoodPlaced, InPlace, all-bytes, at, Keeps5, Keeps6, Keeps8, Keeps9, Keeps10, LastOther, IsPointer}
-use Rattle.model.specs.Refusals.{Fault, fault, First, Starts, EndsWhole, lines-of, byte-at, others, Keeps11, LineRule, line-rule-number, LinesKeep, LineRefusal}
+use Rattle.model.specs.Refusals.{fault, First, Starts, EndsWhole, lines-of, byte-at, others, Keeps11, LineRule, line-rule-number, LinesKeep, LineRefusal}
+use Rattle.model.specs.declared.Fault.{Fault}
 
 -- Places in the file
 
@@ -64,19 +66,19 @@ pub record Scanned (file : List ℕ) (ps : List Placed) (i : ℕ) : Type 0 where
 -- The rules of the lines, noted as the lines come
 
 -- where a line is: its number from 1 and its byte
-abbrev pub Spot : Type 0
-Spot = ℕ × ℕ
+abbrev pub spot : ℕ → ℕ → Place
+spot line byte = record { line = line; byte = byte }
 
-abbrev pub spot-of : List Placed → ℕ → Spot
-spot-of ps i = (i + 1, byte-at ps i)
+abbrev pub spot-of : List Placed → ℕ → Place
+spot-of ps i = (spot (i + 1) (byte-at ps i))
 
 -- the first line that breaks a rule stays noted
-abbrev pub note : Option Spot → Bool → Spot → Option Spot
+abbrev pub note : Option Place → Bool → Place → Option Place
 note None broken here = cond broken (Some here) None
 note (Some s) broken here = Some s
 
 -- no line breaks the rule; or the first that does is here
-abbrev pub Noted : (ℕ → Type 0) → List Placed → Option Spot → Type 0
+abbrev pub Noted : (ℕ → Type 0) → List Placed → Option Place → Type 0
 Noted Keeps ps None = (i : ℕ) → i < length ps → Keeps i
 Noted Keeps ps (Some s) = (i : ℕ) × First Keeps (length ps) i × (s ≡ spot-of ps i)
 
@@ -168,19 +170,19 @@ pub record LastIs (ls : List Line) (o : Last) : Type 0 where
   pub first : Decides (o .first) (place ≡ 0)
 
 pub record Notes : Type 0 where
-  pub levels : Option Spot
-  pub first : Option Spot
-  pub trailer : Option Spot
-  pub steps : Option Spot
-  pub named : Option Spot
-  pub continued : Option Spot
+  pub levels : Option Place
+  pub first : Option Place
+  pub trailer : Option Place
+  pub steps : Option Place
+  pub named : Option Place
+  pub continued : Option Place
 
-abbrev pub notes-with : Option Spot → Option Spot → Option Spot → Option Spot → Option Spot → Option Spot → Notes
+abbrev pub notes-with : Option Place → Option Place → Option Place → Option Place → Option Place → Option Place → Notes
 notes-with levels first trailer steps named continued = record { levels = levels; first = first; trailer = trailer; steps = steps; named = named; continued = continued }
 
 -- one turn: the line at the place n, which begins at this byte
 abbrev pub notes-after : ℕ → ℕ → Last → Seen → Notes → Notes
-notes-after n byte o v s = notes-with (note (s .levels) (breaks5 (v .level)) (n + 1, byte)) (note (s .first) (breaks6 n v) (n + 1, byte)) (note (s .trailer) (is-trailer v) (n + 1, byte)) (note (s .steps) (breaks8 o v) (n + 1, byte)) (note (s .named) (breaks9 v) (n + 1, byte)) (note (s .continued) (breaks10 o v) (n + 1, byte))
+notes-after n byte o v s = notes-with (note (s .levels) (breaks5 (v .level)) (spot (n + 1) byte)) (note (s .first) (breaks6 n v) (spot (n + 1) byte)) (note (s .trailer) (is-trailer v) (spot (n + 1) byte)) (note (s .steps) (breaks8 o v) (spot (n + 1) byte)) (note (s .named) (breaks9 v) (spot (n + 1) byte)) (note (s .continued) (breaks10 o v) (spot (n + 1) byte))
 
 -- where no line breaks the rules 5 and 6
 pub record RuledIn (ps : List Placed) (o : Last) (s : Notes) : Type 0 where
@@ -197,22 +199,22 @@ pub record Ruled (ps : List Placed) (o : Last) (s : Notes) : Type 0 where
   pub inner : s .levels ≡ None → s .first ≡ None → RuledIn ps o s
 
 -- The last line: whether it is the trailer and nothing else, and where it is
-pub record Closed (ps : List Placed) (exact : Bool) (here : Spot) : Type 0 where
+pub record Closed (ps : List Placed) (exact : Bool) (here : Place) : Type 0 where
   pub is : exact ≡ true → at (lines-of ps) (length ps - 1) ≡ line-of 0 None TRLR nothing
   pub only : at (lines-of ps) (length ps - 1) ≡ line-of 0 None TRLR nothing → exact ≡ true
   pub there : here ≡ spot-of ps (length ps - 1)
 
 -- rule 7 at the end: a trailer that is not the last line, or a last line that is none
-abbrev pub closing : Option Spot → Bool → Spot → Option Spot
+abbrev pub closing : Option Place → Bool → Place → Option Place
 closing None exact here = Some here
-closing (Some s) exact here = cond (ltb (s .0) (here .0)) (Some s) (cond exact None (Some here))
+closing (Some s) exact here = cond (ltb (s .line) (here .line)) (Some s) (cond exact None (Some here))
 
 -- the lowest rule with a line noted
-abbrev pub told : ℕ → Option Spot → Option Fault → Option Fault
+abbrev pub told : ℕ → Option Place → Option Fault → Option Fault
 told number None rest = rest
-told number (Some s) rest = Some (fault number (s .0) (s .1))
+told number (Some s) rest = Some (fault number (s .line) (s .byte))
 
-abbrev pub verdict : Notes → Bool → Spot → Option Fault → Option Fault
+abbrev pub verdict : Notes → Bool → Place → Option Fault → Option Fault
 verdict s exact here rest = told 5 (s .levels) (told 6 (s .first) (told 7 (closing (s .trailer) exact here) (told 8 (s .steps) (told 9 (s .named) (told 10 (s .continued) rest)))))
 
 -- the lines keep the rules of the lines that come before the one with the number k
@@ -232,7 +234,7 @@ abbrev pub count-after : ℕ → Seen → ℕ
 count-after count v = cond (v .continuation) count (count + 1)
 
 -- all that the loop over the lines knows at the byte i, behind the lines ps
-pub record Turn (file : List ℕ) (cards : ℕ) (ps : List Placed) (i lines count : ℕ) (o : Last) (s : Notes) (over : Option Spot) (exact : Bool) (here : Spot) : Type 0 where
+pub record Turn (file : List ℕ) (cards : ℕ) (ps : List Placed) (i lines count : ℕ) (o : Last) (s : Notes) (over : Option Place) (exact : Bool) (here : Place) : Type 0 where
   pub scanned : Scanned file ps i
   pub numbered : lines ≡ length ps
   pub counted : count ≡ length (others ps)

@@ -20,7 +20,8 @@ use Rattle.model.specs.Datasets.{none, pointer, Entry}
 use Rattle.model.specs.Kinds.{Takes, may-be-emptied}
 use Rattle.model.specs.Edits.{no-entry}
 use Rattle.model.specs.Files.{Placed}
-use Rattle.model.specs.Refusals.{Fault, First, byte-at, others, BookRule, known, taken, aimed-right, single, needed, filled, book-rule-number}
+use Rattle.model.specs.Refusals.{First, byte-at, others, BookRule, known, taken, aimed-right, single, needed, filled, book-rule-number}
+use Rattle.model.specs.declared.Fault.{Fault}
 
 -- an entry with its row
 pub record Mark : Type 0 where

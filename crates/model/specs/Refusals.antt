@@ -21,15 +21,28 @@ use Rattle.model.specs.Books.{Meaning}
 use Rattle.model.specs.Files.{Placed, Lined, GoodPlaced, InPlace, bytes-of, all-bytes, at, Keeps5, Keeps6, Keeps7, Keeps8, Keeps9, Keeps10, Throughout, Passes, HasLines}
 use Rattle.model.specs.Rules.{Situation, situations, Keeps14, Keeps15, Keeps16, Keeps17, Keeps18, Keeps19, NeedsMet, types-of, top-types}
 use Rattle.model.specs.declared.Context.the-variants.{Top}
-
-pub record Fault : Type 0 where
-  pub number : ℕ
-  pub line : ℕ
-  pub byte : ℕ
-  pub missing : Option ℕ
+use Rattle.model.specs.declared.Fault.{Fault}
+use Rattle.model.specs.declared.Refusal.{Refusal}
+use Rattle.model.specs.declared.Refusal.the-variants.{Unheld, Foreign, Fixed, Held, Past, Oversized, Cramped}
 
 abbrev pub fault : ℕ → ℕ → ℕ → Fault
 fault number line byte = record { number = number; line = line; byte = byte; missing = None }
+
+-- The refusals of the calls on a drawer. Line and byte are 0 from 20 on.
+
+abbrev pub refusal-number : Refusal → ℕ
+refusal-number Unheld = 20
+refusal-number Foreign = 21
+refusal-number Fixed = 22
+refusal-number Held = 23
+refusal-number Past = 24
+refusal-number Oversized = 25
+refusal-number Cramped = 26
+
+abbrev pub refusal-fault : Refusal → Fault
+refusal-fault r = fault (refusal-number r) 0 0
+
+-- The refusals of a reading.
 
 -- i is the first of n places at which P does not hold
 pub record First (P : ℕ → Type 0) (n i : ℕ) : Type 0 where

@@ -19,7 +19,8 @@ use Rattle.model.specs.Files.{HasLines}
 use Rattle.model.specs.Rules.{Belongs}
 use Rattle.model.specs.Cards.{Holds, Blanks}
 use Rattle.model.specs.Removal.{removed, card-count}
-use Rattle.model.specs.Refusals.{Fault, fault}
+use Rattle.model.specs.Refusals.{fault}
+use Rattle.model.specs.declared.Fault.{Fault}
 
 -- d has the file's lines, and a drawer of this many cards has room for it
 pub record Within (file : List ℕ) (room : ℕ) (d : Dataset) : Type 0 where

@@ -58,6 +58,22 @@ pub enum Kind {
     Anything,
 }
 
+// Where something was found in a file: its line from 1 and its byte from 0.
+#[derive(Clone, Copy, PartialEq, Eq, Debug)]
+pub struct Place {
+    pub line: u32,
+    pub byte: u32,
+}
+
+// What a refusal tells: its number, a place in the file, both parts 0 where it has none, and the type that is missing.
+#[derive(Clone, Copy, PartialEq, Eq, Debug)]
+pub struct Fault {
+    pub number: u8,
+    pub line: u32,
+    pub byte: u32,
+    pub missing: Option<u16>,
+}
+
 // Why a call on a drawer says no. A reading has faults of its own, which tell a place in the file.
 #[derive(Clone, Copy, PartialEq, Eq, Debug)]
 pub enum Refusal {
