@@ -3,12 +3,14 @@
 
     lines.py CASES EXPECTED
 
-writes the cases to one file and the answers to the other, in the same order, a line each. A case is a whole small file,
-escaped: printable ASCII stands as it is, a backslash as \\\\, any other byte as \\xHH. An answer ends with a space and the
-case itself:
+writes the cases to one file and the answers to the other, in the same order, a line each. A case is a whole small
+file, escaped: printable ASCII stands as it is, a backslash as \\\\, any other byte as \\xHH. An answer ends with a
+space and the case itself:
 
-    ok LINES CONTINUATIONS DEEPEST CASE          how many lines, how many of them CONT, and the deepest level of them all
+    ok LINES CONTINUATIONS DEEPEST CASE
     refused NUMBER line L byte B CASE
+
+LINES is how many lines there are, CONTINUATIONS how many of them are CONT, DEEPEST the deepest level of all of them.
 
 What a line is stands here as one regular expression, after the productions of FamilySearch GEDCOM 7.0 as
 docs/FORMAT.md restates them, and each refusal as a loop over all lines. Nothing is taken over from the definitions that
@@ -160,8 +162,8 @@ def small_files():
         yield MARK[:n]
     yield MARK + MARK
     for start in (b"", MARK):
-        for rest in (b"\n", b"\r", b"\r\n", b" ", b"0", b"0 ", b"0 HEAD", b"0 HEAD\n", b"0 TRLR\n", tree(), tree() + b"\n", tree()[:-1], tree()[1:],
-                     b"\n" + tree(), b" " + tree(), MARK + tree()):
+        for rest in (b"\n", b"\r", b"\r\n", b" ", b"0", b"0 ", b"0 HEAD", b"0 HEAD\n", b"0 TRLR\n", tree(),
+                     tree() + b"\n", tree()[:-1], tree()[1:], b"\n" + tree(), b" " + tree(), MARK + tree()):
             yield start + rest
     for n in (1, 2):
         yield MARK[:n] + tree()
@@ -204,31 +206,44 @@ def odd_lines():
     """Lines of an odd form, on both sides of each rule of the grammar, between a header and a trailer."""
     yes_and_no = [
         # level
-        b"0 X", b"1 X", b"01 X", b"00 X", b"0", b"", b" 0 X", b"-1 X", b"+1 X", b"1. X", b"0x1 X", b"a X", b"\xd9\xa3 X", b"1", b"1 ", b"1\tX", b"1X", b"1  X", b"X",
+        b"0 X", b"1 X", b"01 X", b"00 X", b"0", b"", b" 0 X", b"-1 X", b"+1 X", b"1. X", b"0x1 X", b"a X",
+        b"\xd9\xa3 X", b"1", b"1 ", b"1\tX", b"1X", b"1  X", b"X",
         b"10 X", b"9 X", b"63 X", b"64 X", b"063 X",
         # identifier
-        b"0 @A@ X", b"0 @Z@ X", b"0 @0@ X", b"0 @9@ X", b"0 @_@ X", b"0 @A_9@ X", b"0 @@ X", b"0 @a@ X", b"0 @A@X", b"0 @A@  X", b"0 @A@", b"0 @A@ ", b"0 @A X", b"0 A@ X",
-        b"0  @A@ X", b"0 @A B@ X", b"0 @A@ @B@ X", b"0 @VOID@ X", b"0 @VOID1@ X", b"0 @_VOID@ X", b"0 @VOI@ X", b"0 @V@ X", b"0 @VOIDVOID@ X", b"0 @void@ X", b"0 @A-1@ X",
-        b"0 @\xc3\x85@ X", b"0 @A:1@ X", b"0 @#A@ X", b"0 @A.@ X", b"0@A@ X", b"0 @@@ X", b"0 @A@@ X", b"0 @@A@ X", b"0 @A@\tX", b"0 @[@ X", b"0 @/@ X",
+        b"0 @A@ X", b"0 @Z@ X", b"0 @0@ X", b"0 @9@ X", b"0 @_@ X", b"0 @A_9@ X", b"0 @@ X", b"0 @a@ X", b"0 @A@X",
+        b"0 @A@  X", b"0 @A@", b"0 @A@ ", b"0 @A X", b"0 A@ X",
+        b"0  @A@ X", b"0 @A B@ X", b"0 @A@ @B@ X", b"0 @VOID@ X", b"0 @VOID1@ X", b"0 @_VOID@ X", b"0 @VOI@ X",
+        b"0 @V@ X", b"0 @VOIDVOID@ X", b"0 @void@ X", b"0 @A-1@ X",
+        b"0 @\xc3\x85@ X", b"0 @A:1@ X", b"0 @#A@ X", b"0 @A.@ X", b"0@A@ X", b"0 @@@ X", b"0 @A@@ X", b"0 @@A@ X",
+        b"0 @A@\tX", b"0 @[@ X", b"0 @/@ X",
         # tag
-        b"0 A", b"0 Z", b"0 A0", b"0 A9", b"0 A_", b"0 _A", b"0 _0", b"0 __", b"0 _", b"0 9", b"0 9A", b"0 a", b"0 Aa", b"0 A.B", b"0 A-B", b"0 \xc3\x84", b"0 A\xc3\x84", b"0 _a",
-        b"0 [", b"0 @", b"0 `", b"0 A[", b"0 A@", b"0 A/", b"0 A:", b"0 _:", b"0 ABCDEFGHIJKLMNOPQRSTUVWXYZ_0123456789", b"0 _ A", b"0 _\tA", b"0 A\tB",
+        b"0 A", b"0 Z", b"0 A0", b"0 A9", b"0 A_", b"0 _A", b"0 _0", b"0 __", b"0 _", b"0 9", b"0 9A", b"0 a", b"0 Aa",
+        b"0 A.B", b"0 A-B", b"0 \xc3\x84", b"0 A\xc3\x84", b"0 _a",
+        b"0 [", b"0 @", b"0 `", b"0 A[", b"0 A@", b"0 A/", b"0 A:", b"0 _:", b"0 ABCDEFGHIJKLMNOPQRSTUVWXYZ_0123456789",
+        b"0 _ A", b"0 _\tA", b"0 A\tB",
         # value
-        b"1 NOTE", b"1 NOTE ", b"1 NOTE  ", b"1 NOTE   ", b"1 NOTE a", b"1 NOTE  a", b"1 NOTE a ", b"1 NOTE\ta", b"1 NOTE \t", b"1 NOTE \ta", b"1 NOTE a\tb", b"1  NOTE a",
-        b"1 NOTE @", b"1 NOTE @@", b"1 NOTE @@@", b"1 NOTE @@@@", b"1 NOTE @@ ", b"1 NOTE @@a", b"1 NOTE @@a@", b"1 NOTE @@a@@b", b"1 NOTE a@b", b"1 NOTE a@@b", b"1 NOTE  @", b"1 NOTE  @@",
-        b"1 NOTE  @A@", b"1 NOTE @A", b"1 NOTE @A@", b"1 NOTE @A@ ", b"1 NOTE @A@ x", b"1 NOTE @A@x", b"1 NOTE @A@@", b"1 NOTE @A@B@", b"1 NOTE @a@", b"1 NOTE @ A@", b"1 NOTE @A @",
-        b"1 NOTE @A_0@", b"1 NOTE @\xc3\x85@", b"1 NOTE @VOID@", b"1 NOTE @VOID", b"1 NOTE @VOID@ ", b"1 NOTE @VOID@@", b"1 NOTE @Void@", b"1 NOTE @VOID1@", b"1 NOTE @@VOID@", b"1 NOTE @#DJULIAN@",
-        b"1 NOTE \xc3\xa5", b"1 NOTE \xe6\x97\xa5", b"1 NOTE \xf0\x9f\x98\x80", b"1 NOTE \\", b"1 NOTE \\x41", b"1 NOTE ~", b"1 NOTE \xc2\xa0", b"1 \xc2\xa0NOTE", b"1\xc2\xa0NOTE",
+        b"1 NOTE", b"1 NOTE ", b"1 NOTE  ", b"1 NOTE   ", b"1 NOTE a", b"1 NOTE  a", b"1 NOTE a ", b"1 NOTE\ta",
+        b"1 NOTE \t", b"1 NOTE \ta", b"1 NOTE a\tb", b"1  NOTE a",
+        b"1 NOTE @", b"1 NOTE @@", b"1 NOTE @@@", b"1 NOTE @@@@", b"1 NOTE @@ ", b"1 NOTE @@a", b"1 NOTE @@a@",
+        b"1 NOTE @@a@@b", b"1 NOTE a@b", b"1 NOTE a@@b", b"1 NOTE  @", b"1 NOTE  @@",
+        b"1 NOTE  @A@", b"1 NOTE @A", b"1 NOTE @A@", b"1 NOTE @A@ ", b"1 NOTE @A@ x", b"1 NOTE @A@x", b"1 NOTE @A@@",
+        b"1 NOTE @A@B@", b"1 NOTE @a@", b"1 NOTE @ A@", b"1 NOTE @A @",
+        b"1 NOTE @A_0@", b"1 NOTE @\xc3\x85@", b"1 NOTE @VOID@", b"1 NOTE @VOID", b"1 NOTE @VOID@ ", b"1 NOTE @VOID@@",
+        b"1 NOTE @Void@", b"1 NOTE @VOID1@", b"1 NOTE @@VOID@", b"1 NOTE @#DJULIAN@",
+        b"1 NOTE \xc3\xa5", b"1 NOTE \xe6\x97\xa5", b"1 NOTE \xf0\x9f\x98\x80", b"1 NOTE \\", b"1 NOTE \\x41",
+        b"1 NOTE ~", b"1 NOTE \xc2\xa0", b"1 \xc2\xa0NOTE", b"1\xc2\xa0NOTE",
         b"0 @A@ NOTE @A@", b"0 @A@ NOTE @VOID@", b"0 @A@ NOTE x", b"0 @A@ NOTE @@A@", b"0 @A@ NOTE ", b"0 @A@ @A@",
     ]
     for line in yes_and_no:
         yield tree(line)
     # the same forms as the first and as the last line, and with no end
-    for line in (b"00 HEAD", b"0 HEAD ", b"0  HEAD", b" 0 HEAD", b"0 HEAD x", b"0 @A@ HEAD", b"0 HEAD @A@", b"0 HEAD @VOID@", b"1 HEAD", b"0 HEADS", b"0 head", b"0 HEAD\t",
-                 b"0 HEAD @", b"0\tHEAD", b"0 _HEAD", b"0 INDI", b"0 TRLR", b"0 CONT", b"1 CONT", b"0 CONC", b"64 HEAD", b"0 @VOID@ HEAD"):
+    for line in (b"00 HEAD", b"0 HEAD ", b"0  HEAD", b" 0 HEAD", b"0 HEAD x", b"0 @A@ HEAD", b"0 HEAD @A@",
+                 b"0 HEAD @VOID@", b"1 HEAD", b"0 HEADS", b"0 head", b"0 HEAD\t", b"0 HEAD @", b"0\tHEAD", b"0 _HEAD",
+                 b"0 INDI", b"0 TRLR", b"0 CONT", b"1 CONT", b"0 CONC", b"64 HEAD", b"0 @VOID@ HEAD"):
         yield line + b"\n" + TRLR + b"\n"
-    for line in (b"00 TRLR", b"0 TRLR ", b"0  TRLR", b" 0 TRLR", b"0 TRLR x", b"0 @A@ TRLR", b"0 TRLR @A@", b"0 TRLR @VOID@", b"1 TRLR", b"0 TRLRS", b"0 trlr", b"0 TRLR\t",
-                 b"0 TRLR @", b"0\tTRLR", b"0 _TRLR", b"0 INDI", b"0 HEAD", b"0 CONT", b"1 CONT", b"0 CONC", b"64 TRLR", b"1 NOTE x", b"0 @VOID@ TRLR"):
+    for line in (b"00 TRLR", b"0 TRLR ", b"0  TRLR", b" 0 TRLR", b"0 TRLR x", b"0 @A@ TRLR", b"0 TRLR @A@",
+                 b"0 TRLR @VOID@", b"1 TRLR", b"0 TRLRS", b"0 trlr", b"0 TRLR\t", b"0 TRLR @", b"0\tTRLR", b"0 _TRLR",
+                 b"0 INDI", b"0 HEAD", b"0 CONT", b"1 CONT", b"0 CONC", b"64 TRLR", b"1 NOTE x", b"0 @VOID@ TRLR"):
         yield HEAD + b"\n0 X\n" + line + b"\n"
     for line in (b"0 X", b"1 NOTE x", b"0 TRLR x", b"", b"\r"):
         yield HEAD + b"\n" + line
@@ -242,8 +257,9 @@ def levels():
     yield tree(b"0 X", *deep[:61], b"62 L text", b"63 CONT more")
     yield tree(b"0 X", *deep[:62], b"63 L text", b"64 CONT more")
     yield tree(b"0 X", *deep, b"0 Y", b"64 Z")
-    for digits in (b"64", b"65", b"99", b"100", b"255", b"256", b"65536", b"4294967295", b"4294967296", b"4294967297", b"18446744073709551615", b"18446744073709551616",
-                   b"18446744073709551617", b"1000000000000000000000000", b"9999999999999999999999999", b"1" + b"0" * 39):
+    for digits in (b"64", b"65", b"99", b"100", b"255", b"256", b"65536", b"4294967295", b"4294967296", b"4294967297",
+                   b"18446744073709551615", b"18446744073709551616", b"18446744073709551617",
+                   b"1000000000000000000000000", b"9999999999999999999999999", b"1" + b"0" * 39):
         yield tree(digits + b" X")
         yield tree(b"0 X", b"1 Y", digits + b" Z", b"1 W")
     yield tree(b"0" * 25 + b" X")
@@ -267,7 +283,7 @@ def rules():
 
     yield whole(good)
     yield MARK + whole(good)
-    for number, bad in middle.items():
+    for bad in middle.values():
         for place in (0, 1, 4, len(good) - 2, len(good) - 1):
             # in the place of a line, and before it
             yield whole(good[:place] + [bad] + good[place + 1:])
@@ -281,13 +297,16 @@ def rules():
             if first != second:
                 yield whole([HEAD, b"0 X", b"1 Y", first, b"0 W", b"1 V", second, TRLR])
     # both in one line
-    for line in (b"64 HEAD", b"64 @A@ X", b"64 CONC", b"64 CONT x", b"3 @A@ X", b"3 @A@ CONC", b"1 @A@ CONC", b"2 @A@ CONT x", b"0 @A@ HEAD x", b"0 @A@ TRLR x", b"0 @A@ CONC", b"0 @A@ CONT"):
+    for line in (b"64 HEAD", b"64 @A@ X", b"64 CONC", b"64 CONT x", b"3 @A@ X", b"3 @A@ CONC", b"1 @A@ CONC",
+                 b"2 @A@ CONT x", b"0 @A@ HEAD x", b"0 @A@ TRLR x", b"0 @A@ CONC", b"0 @A@ CONT"):
         yield whole([HEAD, b"0 X", b"1 Y", line, TRLR])
 
 
 def headers_and_trailers():
-    for inner in ((b"1 HEAD",), (b"1 TRLR",), (b"0 X", b"1 HEAD x"), (b"0 X", b"1 TRLR @A@"), (b"0 HEAD",), (b"0 HEAD x",), (b"0 @A@ HEAD",), (b"0 TRLR",), (b"0 TRLR x",), (b"0 @A@ TRLR",),
-                  (b"0 X", b"0 HEAD", b"0 HEAD"), (b"0 TRLR", b"0 TRLR", b"0 X"), (b"0 TRLR", b"0 HEAD"), (b"0 HEAD", b"0 TRLR"), (b"0 HEADER",), (b"0 TRLR_",), (b"0 X", b"1 Y", b"2 HEAD", b"2 TRLR")):
+    for inner in ((b"1 HEAD",), (b"1 TRLR",), (b"0 X", b"1 HEAD x"), (b"0 X", b"1 TRLR @A@"), (b"0 HEAD",),
+                  (b"0 HEAD x",), (b"0 @A@ HEAD",), (b"0 TRLR",), (b"0 TRLR x",), (b"0 @A@ TRLR",),
+                  (b"0 X", b"0 HEAD", b"0 HEAD"), (b"0 TRLR", b"0 TRLR", b"0 X"), (b"0 TRLR", b"0 HEAD"),
+                  (b"0 HEAD", b"0 TRLR"), (b"0 HEADER",), (b"0 TRLR_",), (b"0 X", b"1 Y", b"2 HEAD", b"2 TRLR")):
         yield tree(*inner)
     yield tree() + tree()
     yield tree() + b"0 X\n"
@@ -299,18 +318,23 @@ def headers_and_trailers():
 
 
 def steps():
-    for inner in ((b"1 A",), (b"2 A",), (b"1 A", b"2 B"), (b"1 A", b"3 B"), (b"0 X", b"1 A", b"2 B", b"3 C", b"1 D"), (b"0 X", b"1 A", b"2 B", b"0 Y", b"2 C"), (b"0 X", b"2 A", b"3 B"),
+    for inner in ((b"1 A",), (b"2 A",), (b"1 A", b"2 B"), (b"1 A", b"3 B"), (b"0 X", b"1 A", b"2 B", b"3 C", b"1 D"),
+                  (b"0 X", b"1 A", b"2 B", b"0 Y", b"2 C"), (b"0 X", b"2 A", b"3 B"),
                   # a CONT is passed over
-                  (b"0 X a", b"1 CONT b", b"1 A"), (b"0 X a", b"1 CONT b", b"2 A"), (b"0 X", b"1 A a", b"2 CONT b", b"2 B"), (b"0 X", b"1 A a", b"2 CONT b", b"3 B"),
-                  (b"0 X", b"1 A a", b"2 CONT b", b"2 CONT c", b"3 B"), (b"0 X", b"1 A a", b"2 CONT b", b"0 Y"), (b"0 X", b"1 A a", b"2 CONT b", b"1 B"),
+                  (b"0 X a", b"1 CONT b", b"1 A"), (b"0 X a", b"1 CONT b", b"2 A"),
+                  (b"0 X", b"1 A a", b"2 CONT b", b"2 B"), (b"0 X", b"1 A a", b"2 CONT b", b"3 B"),
+                  (b"0 X", b"1 A a", b"2 CONT b", b"2 CONT c", b"3 B"), (b"0 X", b"1 A a", b"2 CONT b", b"0 Y"),
+                  (b"0 X", b"1 A a", b"2 CONT b", b"1 B"),
                   # CONC is a line like any other here
                   (b"0 X", b"1 CONC", b"2 A"), (b"0 X", b"2 CONC"), (b"0 X", b"1 CONC", b"3 A")):
         yield tree(*inner)
 
 
 def identifiers():
-    for inner in ((b"0 @A@ X",), (b"1 @A@ X",), (b"0 X", b"1 @A@ Y"), (b"0 @A@ X", b"1 @B@ Y", b"2 @C@ Z"), (b"0 @A@ X", b"0 @A@ X"), (b"0 X @A@",), (b"0 X", b"1 Y @A@", b"1 @A@ Y"),
-                  (b"0 X", b"1 Y a", b"2 @A@ CONT b"), (b"0 @A@ CONT b",), (b"0 X", b"1 @A@ HEAD"), (b"0 X", b"1 @A@ CONC x")):
+    for inner in ((b"0 @A@ X",), (b"1 @A@ X",), (b"0 X", b"1 @A@ Y"), (b"0 @A@ X", b"1 @B@ Y", b"2 @C@ Z"),
+                  (b"0 @A@ X", b"0 @A@ X"), (b"0 X @A@",), (b"0 X", b"1 Y @A@", b"1 @A@ Y"),
+                  (b"0 X", b"1 Y a", b"2 @A@ CONT b"), (b"0 @A@ CONT b",), (b"0 X", b"1 @A@ HEAD"),
+                  (b"0 X", b"1 @A@ CONC x")):
         yield tree(*inner)
 
 
@@ -318,20 +342,29 @@ def continuations():
     x = (b"0 X",)
     for inner in (
             # after the first line, after a substructure of the header, after nothing
-            (b"1 CONT a",), (b"0 CONT a",), (b"1 CONT",), (b"1 NOTE a", b"2 CONT b"), (b"1 NOTE a", b"1 CONT b"), (b"1 CONT a", b"1 CONT b"),
+            (b"1 CONT a",), (b"0 CONT a",), (b"1 CONT",), (b"1 NOTE a", b"2 CONT b"), (b"1 NOTE a", b"1 CONT b"),
+            (b"1 CONT a", b"1 CONT b"),
             # level
-            x + (b"1 CONT a",), x + (b"0 CONT a",), x + (b"2 CONT a",), x + (b"1 N a", b"2 CONT b"), x + (b"1 N a", b"1 CONT b"), x + (b"1 N a", b"3 CONT b"), x + (b"1 N a", b"0 CONT b"),
-            x + (b"1 N a", b"2 CONT b", b"2 CONT c"), x + (b"1 N a", b"2 CONT b", b"3 CONT c"), x + (b"1 N a", b"2 CONT b", b"1 CONT c"),
+            x + (b"1 CONT a",), x + (b"0 CONT a",), x + (b"2 CONT a",), x + (b"1 N a", b"2 CONT b"),
+            x + (b"1 N a", b"1 CONT b"), x + (b"1 N a", b"3 CONT b"), x + (b"1 N a", b"0 CONT b"),
+            x + (b"1 N a", b"2 CONT b", b"2 CONT c"), x + (b"1 N a", b"2 CONT b", b"3 CONT c"),
+            x + (b"1 N a", b"2 CONT b", b"1 CONT c"),
             # after a text, none, a pointer, void; with each of them
-            x + (b"1 N", b"2 CONT b"), x + (b"1 N @A@", b"2 CONT b"), x + (b"1 N @VOID@", b"2 CONT b"), x + (b"1 N @@A@", b"2 CONT b"), x + (b"1 N a", b"2 CONT"), x + (b"1 N a", b"2 CONT @A@"),
-            x + (b"1 N a", b"2 CONT @VOID@"), x + (b"1 N a", b"2 CONT @@A@"), x + (b"1 N", b"2 CONT"), x + (b"1 N", b"2 CONT", b"2 CONT"), x + (b"1 N a", b"2 CONT  "), x + (b"1 N a", b"2 CONT "),
+            x + (b"1 N", b"2 CONT b"), x + (b"1 N @A@", b"2 CONT b"), x + (b"1 N @VOID@", b"2 CONT b"),
+            x + (b"1 N @@A@", b"2 CONT b"), x + (b"1 N a", b"2 CONT"), x + (b"1 N a", b"2 CONT @A@"),
+            x + (b"1 N a", b"2 CONT @VOID@"), x + (b"1 N a", b"2 CONT @@A@"), x + (b"1 N", b"2 CONT"),
+            x + (b"1 N", b"2 CONT", b"2 CONT"), x + (b"1 N a", b"2 CONT  "), x + (b"1 N a", b"2 CONT "),
             x + (b"1 N @A@", b"2 CONT", b"2 CONT b"), x + (b"1 N a", b"2 CONT b", b"2 CONT @A@", b"2 CONT c"),
             # after a substructure
-            x + (b"1 N a", b"2 M b", b"2 CONT c"), x + (b"1 N a", b"2 M b", b"3 CONT c"), x + (b"1 N a", b"2 CONT b", b"2 M c", b"3 CONT d", b"2 CONT e"), x + (b"1 N a", b"2 M b", b"1 O", b"2 CONT c"),
+            x + (b"1 N a", b"2 M b", b"2 CONT c"), x + (b"1 N a", b"2 M b", b"3 CONT c"),
+            x + (b"1 N a", b"2 CONT b", b"2 M c", b"3 CONT d", b"2 CONT e"),
+            x + (b"1 N a", b"2 M b", b"1 O", b"2 CONT c"),
             # on a record
-            (b"0 @A@ S a", b"1 CONT b"), (b"0 @A@ S", b"1 CONT b"), (b"0 @A@ S @A@", b"1 CONT b"), (b"0 @A@ S a", b"1 T b", b"1 CONT c"),
+            (b"0 @A@ S a", b"1 CONT b"), (b"0 @A@ S", b"1 CONT b"), (b"0 @A@ S @A@", b"1 CONT b"),
+            (b"0 @A@ S a", b"1 T b", b"1 CONT c"),
             # names that are near
-            x + (b"1 CONTS a",), x + (b"1 CON a",), x + (b"1 _CONT a",), x + (b"1 CONTCONT a",), x + (b"1 CONC",), x + (b"1 N a", b"2 CONC b"), x + (b"1 N a", b"2 CONT b", b"2 CONC c"), x + (b"1 CONCS a",),
+            x + (b"1 CONTS a",), x + (b"1 CON a",), x + (b"1 _CONT a",), x + (b"1 CONTCONT a",), x + (b"1 CONC",),
+            x + (b"1 N a", b"2 CONC b"), x + (b"1 N a", b"2 CONT b", b"2 CONC c"), x + (b"1 CONCS a",),
             x + (b"1 N a", b"2 CONC b", b"3 CONT c"), (b"0 CONC",), (b"0 X a", b"1 CONT b", b"1 CONC c", b"1 CONT d")):
         yield tree(*inner)
     yield HEAD + b"\n0 X a\n1 CONT b\n"
@@ -358,8 +391,10 @@ def noted(character, before=b"a", after=b"b"):
 
 def characters():
     # the smallest and the largest of each length, and what is on either side of each bound
-    for code in (0x20, 0x7E, 0x7F, 0x80, 0x81, 0x9E, 0x9F, 0xA0, 0xA1, 0xFF, 0x100, 0x7FF, 0x800, 0xFFF, 0x1000, 0xCFFF, 0xD000, 0xD7FF, 0xD800, 0xDBFF, 0xDC00, 0xDFFF,
-                 0xE000, 0xFDD0, 0xFEFF, 0xFFFD, 0xFFFE, 0xFFFF, 0x10000, 0x1FFFD, 0x1FFFE, 0x1FFFF, 0x3FFFF, 0x40000, 0xFFFFF, 0x100000, 0x10FFFD, 0x10FFFE, 0x10FFFF, 0x110000, 0x13FFFF, 0x140000, 0x1FFFFF):
+    for code in (0x20, 0x7E, 0x7F, 0x80, 0x81, 0x9E, 0x9F, 0xA0, 0xA1, 0xFF, 0x100, 0x7FF, 0x800, 0xFFF, 0x1000, 0xCFFF,
+                 0xD000, 0xD7FF, 0xD800, 0xDBFF, 0xDC00, 0xDFFF, 0xE000, 0xFDD0, 0xFEFF, 0xFFFD, 0xFFFE, 0xFFFF,
+                 0x10000, 0x1FFFD, 0x1FFFE, 0x1FFFF, 0x3FFFF, 0x40000, 0xFFFFF, 0x100000, 0x10FFFD, 0x10FFFE, 0x10FFFF,
+                 0x110000, 0x13FFFF, 0x140000, 0x1FFFFF):
         yield noted(encode(code))
     # controls, one by one, in a text and in the place of a line
     for code in range(0x20):
@@ -370,7 +405,8 @@ def characters():
         yield tree() + bytes([code])
         yield MARK + bytes([code]) + tree()
     # a character in more bytes than it needs
-    for length, codes in ((2, (0x00, 0x2F, 0x40, 0x7F)), (3, (0x00, 0x7F, 0x80, 0x7FF)), (4, (0x00, 0x7F, 0x7FF, 0x800, 0xFFFF))):
+    for length, codes in ((2, (0x00, 0x2F, 0x40, 0x7F)), (3, (0x00, 0x7F, 0x80, 0x7FF)),
+                          (4, (0x00, 0x7F, 0x7FF, 0x800, 0xFFFF))):
         for code in codes:
             yield noted(encode_in(length, code))
     # bytes that begin nothing
@@ -379,9 +415,12 @@ def characters():
         yield noted(bytes([byte, 0x80, 0x80, 0x80]))
         yield bytes([byte]) + tree()
     # second bytes on both sides of their bounds
-    for lead, seconds in ((0xC2, (0x7F, 0x80, 0xBF, 0xC0)), (0xDF, (0x7F, 0x80, 0xBF, 0xC0)), (0xE0, (0x80, 0x9F, 0xA0, 0xBF, 0xC0)), (0xE1, (0x7F, 0x80, 0xBF, 0xC0)),
-                          (0xEC, (0x80, 0xBF)), (0xED, (0x7F, 0x80, 0x9F, 0xA0, 0xBF)), (0xEE, (0x7F, 0x80, 0xBF)), (0xEF, (0x7F, 0x80, 0xBF, 0xC0)), (0xF0, (0x80, 0x8F, 0x90, 0xBF, 0xC0)),
-                          (0xF1, (0x7F, 0x80, 0xBF, 0xC0)), (0xF3, (0x80, 0xBF)), (0xF4, (0x7F, 0x80, 0x8F, 0x90, 0xBF)), (0xF5, (0x80,))):
+    for lead, seconds in ((0xC2, (0x7F, 0x80, 0xBF, 0xC0)), (0xDF, (0x7F, 0x80, 0xBF, 0xC0)),
+                          (0xE0, (0x80, 0x9F, 0xA0, 0xBF, 0xC0)), (0xE1, (0x7F, 0x80, 0xBF, 0xC0)),
+                          (0xEC, (0x80, 0xBF)), (0xED, (0x7F, 0x80, 0x9F, 0xA0, 0xBF)), (0xEE, (0x7F, 0x80, 0xBF)),
+                          (0xEF, (0x7F, 0x80, 0xBF, 0xC0)), (0xF0, (0x80, 0x8F, 0x90, 0xBF, 0xC0)),
+                          (0xF1, (0x7F, 0x80, 0xBF, 0xC0)), (0xF3, (0x80, 0xBF)),
+                          (0xF4, (0x7F, 0x80, 0x8F, 0x90, 0xBF)), (0xF5, (0x80,))):
         length = 2 if lead < 0xE0 else 3 if lead < 0xF0 else 4
         for second in seconds:
             yield noted(bytes([lead, second] + [0xA5] * (length - 2)))
@@ -435,7 +474,8 @@ def faults_after_ends():
 
 def cases():
     found = {}
-    for family in (small_files, line_ends, odd_lines, levels, rules, headers_and_trailers, steps, identifiers, continuations, characters, faults_after_ends):
+    for family in (small_files, line_ends, odd_lines, levels, rules, headers_and_trailers, steps, identifiers,
+                   continuations, characters, faults_after_ends):
         for data in family():
             found[data] = True
     return list(found)

@@ -5,6 +5,8 @@ mod mark;
 mod utf8;
 
 pub use fault::ByteFault;
+pub use fault::ByteFaultDebug;
+pub use fault::ByteFaultPartialEq;
 pub use mark::MARK;
 pub use mark::without_mark;
 pub use utf8::LIMIT;

@@ -146,7 +146,7 @@ level-sound bs r e =
     let same = some-same (number-of (front asciiDigit bs), after asciiDigit bs) r (h .1) in
     subst (λ (s : ℕ × List ℕ). numeral (s .0) ++ s .1 ≡ bs) same (ap (λ x. x ++ after asciiDigit bs) (numeral-of (front asciiDigit bs) (front-passes asciiDigit bs) (h .0)) ∙ front-after asciiDigit bs)
 
-all-tag-chars : (cs : List ℕ) → Every (λ c. tag-char c ≡ true) cs → tag-chars cs ≡ true
+pub all-tag-chars : (cs : List ℕ) → Every (λ c. tag-char c ≡ true) cs → tag-chars cs ≡ true
 all-tag-chars [] h = refl
 all-tag-chars (c ∷ cs) h = and-from (tag-char c) (tag-chars cs) (h .0) (all-tag-chars cs (h .1))
 

@@ -1,0 +1,4 @@
+pub mod Names
+pub mod Parsing
+pub mod Readers
+pub mod Scanned
