@@ -9,7 +9,7 @@ use std::process::exit;
 use std::time::{Duration, Instant};
 
 // The proved checks. Each answers 0 for a file that it accepts, else number * 2^56 + line * 2^28 + byte. The first covers the
-// refusals 1 to 3. The second covers 4 to 10 and is asked only about files that the first accepts.
+// refusals 1 to 3. The second covers 1 to 10.
 extern "C" {
     fn intake_check_characters(file: *const u8, len: usize) -> u64;
     fn intake_check_lines(file: *const u8, len: usize) -> u64;
@@ -558,6 +558,12 @@ fn main() {
             |file| packed(check_characters(file)),
             proved_characters,
         );
-        row("lines", input, |file| packed(check_lines(file)), proved_lines);
+        // the proved check of the lines checks the characters first, so the plain one does too
+        row(
+            "characters and lines",
+            input,
+            |file| packed(check_characters(file).and_then(|()| check_lines(file))),
+            proved_lines,
+        );
     }
 }

@@ -1,4 +1,5 @@
 ghost use mathlib.Core.Path.{_≡_};
+ghost use Rattle.model.specs.Refusals.{fault};
 ghost use Rattle.characters.specs.Faults.{byte-fault};
 use model::Fault;
 use model::Place;
@@ -16,30 +17,27 @@ pub enum ByteFault {
     Banned(Place),
 }
 
+// What is told of a place.
+pub fn fault_at(number: u8, at: Place) -> Fault
+    ensures { λ r. ⌜ r ≡ fault number (at .line) (at .byte) ⌝ }
+{
+    Fault {
+        number,
+        line: at.line,
+        byte: at.byte,
+        missing: None,
+    }
+}
+
 impl ByteFault {
     // Its number and its place.
     pub fn fault(&self) -> Fault
         ensures { λ r. ⌜ r ≡ byte-fault (now (self .entry)) ⌝ }
     {
         match *self {
-            ByteFault::TooLong => Fault {
-                number: 1,
-                line: 0,
-                byte: 0,
-                missing: None,
-            },
-            ByteFault::Malformed(at) => Fault {
-                number: 2,
-                line: at.line,
-                byte: at.byte,
-                missing: None,
-            },
-            ByteFault::Banned(at) => Fault {
-                number: 3,
-                line: at.line,
-                byte: at.byte,
-                missing: None,
-            },
+            ByteFault::TooLong => fault_at(1, Place { line: 0, byte: 0 }),
+            ByteFault::Malformed(at) => fault_at(2, at),
+            ByteFault::Banned(at) => fault_at(3, at),
         }
     }
 }

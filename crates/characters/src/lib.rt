@@ -7,6 +7,7 @@ mod utf8;
 pub use fault::ByteFault;
 pub use fault::ByteFaultDebug;
 pub use fault::ByteFaultPartialEq;
+pub use fault::fault_at;
 pub use mark::MARK;
 pub use mark::without_mark;
 pub use utf8::LIMIT;

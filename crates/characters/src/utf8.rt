@@ -1,4 +1,5 @@
 ghost use mathlib.Core.Path.{_≡_};
+ghost use mathlib.Core.Bool.{true};
 ghost use Prim.Native.Nat.{_<_, _≤_};
 ghost use lib.ListN.{length, getD};
 ghost use Rattle.model.specs.Bytes.{is-next, is-second, width-at, banned-at};
@@ -104,6 +105,13 @@ fn ends_line(file: &[u8], i: usize) -> bool
     a == b'\n' || (a == b'\r' && byte(file, i + 1) != b'\n')
 }
 
+// Whether a byte is a character by itself that neither is banned nor ends a line, as most are.
+fn is_plain(b: u8) -> bool
+    ensures { λ r. ⌜ (r ≡ true → (32 ≤ b) × (b < 127)) ⌝ }
+{
+    b >= 0x20 && b < 0x7F
+}
+
 // The first place that is noted stays.
 fn note(first: Option<Place>, broken: bool, here: Place) -> Option<Place>
     ensures { λ r. ⌜ r ≡ noted first broken here ⌝ }
@@ -126,6 +134,10 @@ pub fn check(file: &[u8]) -> Result<(), ByteFault>
     let mut ends: u32 = 0;
     let mut found: Option<Place> = None;
     while i < file.len() {
+        if is_plain(file[i]) {
+            i += 1;
+            continue;
+        }
         let here = Place {
             line: ends + 1,
             byte: i as u32,

@@ -1,10 +1,10 @@
 ghost use mathlib.Core.Path.{_≡_};
-ghost use Rattle.std.specs.declared.option.Option.the-variants.{None};
 ghost use Rattle.lines.specs.declared.fault.LineFault.the-variants.{Bytes};
 ghost use Rattle.lines.specs.Faults.{line-fault};
 use characters::ByteFault;
 use characters::ByteFaultDebug;
 use characters::ByteFaultPartialEq;
+use characters::fault_at;
 use model::Fault;
 use model::Place;
 use model::PlaceDebug;
@@ -31,17 +31,6 @@ pub enum LineFault {
     Continuation(Place),
 }
 
-fn told(number: u8, at: Place) -> Fault
-    ensures { λ r. ⌜ r ≡ record { number = number; line = at .line; byte = at .byte; missing = None } ⌝ }
-{
-    Fault {
-        number,
-        line: at.line,
-        byte: at.byte,
-        missing: None,
-    }
-}
-
 impl LineFault {
     // Its number and its place.
     pub fn fault(&self) -> Fault
@@ -49,13 +38,13 @@ impl LineFault {
     {
         match *self {
             LineFault::Bytes(fault) => fault.fault(),
-            LineFault::NoLine(at) => told(4, at),
-            LineFault::TooDeep(at) => told(5, at),
-            LineFault::Header(at) => told(6, at),
-            LineFault::Trailer(at) => told(7, at),
-            LineFault::Jump(at) => told(8, at),
-            LineFault::Named(at) => told(9, at),
-            LineFault::Continuation(at) => told(10, at),
+            LineFault::NoLine(at) => fault_at(4, at),
+            LineFault::TooDeep(at) => fault_at(5, at),
+            LineFault::Header(at) => fault_at(6, at),
+            LineFault::Trailer(at) => fault_at(7, at),
+            LineFault::Jump(at) => fault_at(8, at),
+            LineFault::Named(at) => fault_at(9, at),
+            LineFault::Continuation(at) => fault_at(10, at),
         }
     }
 }

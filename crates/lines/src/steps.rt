@@ -1,10 +1,13 @@
 // The lines of a file, one after the other.
 ghost use mathlib.Core.Path.{_≡_};
 ghost use mathlib.Core.Bool.{cond};
+ghost use mathlib.Core.List.{List, []};
 ghost use Prim.Native.Nat.{_<_, _≤_};
 ghost use lib.ListN.{length};
-ghost use Rattle.model.specs.LineTurns.{is-marked, line-end, next-line};
-ghost use Rattle.lines.specs.Steps.{Steps};
+ghost use Rattle.model.specs.LineTurns.{Scanned, is-marked, line-end, next-line};
+ghost use Rattle.model.specs.Characters.{Clean};
+ghost use Rattle.model.specs.Files.{Placed};
+ghost use Rattle.lines.specs.Steps.{Steps, Gives};
 use crate::cursor::Cursor;
 use crate::line::Line;
 use crate::line::parse;
@@ -55,6 +58,7 @@ impl<'a> Cursor<'a> {
     pub fn new(file: &'a [u8]) -> Cursor<'a>
         ensures file { λ r. ⌜ now (r .file) ≡ now (file .entry) ⌝ }
         ensures start { λ r. ⌜ r .at ≡ cond (is-marked (now (file .entry))) 3 0 ⌝ ∗ ⌜ r .lines ≡ 0 ⌝ }
+        ensures begins { λ r. ⌜ (Clean (now (file .entry)) → Scanned (now (file .entry)) [] (r .at)) ⌝ }
     {
         Cursor {
             file,
@@ -67,6 +71,7 @@ impl<'a> Cursor<'a> {
     pub fn step(&mut self) -> Step<'a>
         ensures file { λ _. ⌜ now (now (self .exit) .file) ≡ now (now (self .entry) .file) ⌝ }
         ensures steps { λ r. ⌜ Steps (now (now (self .entry) .file)) (now (self .entry) .at) (now (self .entry) .lines) (now (self .exit) .at) (now (self .exit) .lines) r ⌝ }
+        ensures given { λ r. ⌜ ((ps : List Placed) → Scanned (now (now (self .entry) .file)) ps (now (self .entry) .at) → length ps ≡ now (self .entry) .lines → Gives (now (now (self .entry) .file)) ps (now (self .exit) .at) r) ⌝ }
     {
         if self.at >= self.file.len() {
             return Step::End;

@@ -7,8 +7,9 @@ use native.Mathlib.Omega.{arith}
 use lib.ListN.{length, length-append}
 use Rattle.std.proofs.shelf.Tests.{cond-true, cond-false, cases-bool}
 use Rattle.model.specs.Datasets.{MARK}
-use Rattle.model.specs.LineTurns.{is-marked}
+use Rattle.model.specs.LineTurns.{is-marked, last-with, spot}
 use Rattle.model.proofs.LineTurns.{marked-decides}
+use Rattle.model.proofs.Scans.{turn-start}
 use Rattle.characters.specs.Marks.{TakenOff}
 use Rattle.lines.proofs.cursor.Cursor.new.Needs as need
 
@@ -23,4 +24,7 @@ start file rest (inr (none, same)) =
     ]
 
 pub returns : need.returns
-returns c = record { file = refl; start = (start (c .args .file .now) (c .without-mark .result .now) (c .without-mark .ensures), refl) }
+returns c =
+    let file = c .args .file .now in
+    let at = start file (c .without-mark .result .now) (c .without-mark .ensures) in
+    record { file = refl; start = (at, refl); begins = λ clean. turn-start file 0 _ (last-with 0 false false) false (spot 0 0) (is-marked file) clean refl at .scanned }

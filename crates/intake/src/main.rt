@@ -1,0 +1,70 @@
+// The program of the volunteers: it reads a family tree and says what it finds. Everything that matters is in the library
+// crates; here are the arguments, the files and the words.
+mod failure;
+mod messages;
+mod report;
+
+use characters::LIMIT;
+use failure::Failure;
+use failure::FailureDisplay;
+use failure::IoFailure;
+use failure::MemoryFailure;
+use model::Fault;
+use std::env;
+use std::fs;
+
+const USAGE: &str = "usage: intake check FILE
+  check FILE    checks the characters and the lines of a family tree, and reports what it has";
+
+// The bytes of a file, or why there are none.
+fn load(rt: &LibcRuntime, path: &str) -> Result<Vec<u8>, Failure> {
+    let Ok(found) = fs::metadata(rt, path) else {
+        return Err(Failure::Missing);
+    };
+    if found.is_dir() {
+        return Err(Failure::Folder);
+    }
+    if found.len() > LIMIT as u64 {
+        return Err(Failure::Refused(characters::ByteFault::TooLong.fault()));
+    }
+    match fs::read(rt, path) {
+        Ok(bytes) => Ok(bytes),
+        Err(_) => Err(Failure::Unreadable),
+    }
+}
+
+fn check(rt: &LibcRuntime, path: &str) -> Result<(), Failure> {
+    let file = load(rt, path)?;
+    match lines::check(&file) {
+        Ok(counts) => report::checked(rt, path, &file, counts),
+        Err(fault) => Err(Failure::Refused(fault.fault())),
+    }
+}
+
+fn run(rt: &LibcRuntime, words: &[String]) -> Result<(), Failure> {
+    if words.len() < 2 {
+        rt.println(USAGE)?;
+        return Ok(());
+    }
+    if words.len() == 3 && words[1].as_str() == "check" {
+        return check(rt, words[2].as_str());
+    }
+    Err(Failure::Usage)
+}
+
+// One line on standard error; trouble with a file names it.
+fn tell(rt: &LibcRuntime, words: &[String], failure: Failure) -> Result<(), Failure> {
+    match words.last() {
+        Some(path) if failure.is_of_file() => eprintln!(rt, "intake: {path}: {failure}")?,
+        _ => eprintln!(rt, "{failure}")?,
+    }
+    Err(failure)
+}
+
+fn main(rt: LibcRuntime) -> Result<(), Failure> {
+    let words: Vec<String> = env::args(&rt)?.collect(rt.alloc())?;
+    match run(&rt, &words) {
+        Ok(()) => Ok(()),
+        Err(failure) => tell(&rt, &words, failure),
+    }
+}
