@@ -31,6 +31,7 @@ pub record Event : Type 0 where
   pub answer : Reply
   pub left : List ℕ
 
+-- a reading that is granted
 pub record Accepted (m : Meaning) (file : List ℕ) (cards : List Card) (answer : Reply) (out : List Card) : Type 0 where
   pub dataset : Dataset
   pub reads : ReadsAs m file (length cards) dataset
@@ -40,6 +41,7 @@ pub record Accepted (m : Meaning) (file : List ℕ) (cards : List Card) (answer 
   pub counted : answer ≡ number (card-count dataset)
   pub unlisted : (f : Fault) → Refuses m file (length cards) f → ⊥
 
+-- a reading that is refused
 pub record Declined (m : Meaning) (file : List ℕ) (cards : List Card) (answer : Reply) (out : List Card) : Type 0 where
   pub fault : Fault
   pub answered : answer ≡ unread fault
@@ -51,10 +53,6 @@ pub record Declined (m : Meaning) (file : List ℕ) (cards : List Card) (answer 
 -- no drawer holds two datasets of one file, so what follows speaks of the one
 abbrev pub Unheld : List ℕ → List Card → Type 0
 Unheld file cards = (d : Dataset) → Holds file cards d → ⊥
-
-pub record Unchanged (cards out : List Card) (e : Event) : Type 0 where
-  pub cards-same : out ≡ cards
-  pub buffer-same : e .left ≡ e .buffer
 
 -- a removal: 20 where the drawer holds nothing, 21 where that is not of the book, else by the plain run
 pub record Removing (m : Meaning) (file : List ℕ) (cards : List Card) (k : ℕ) (e : Event) (out : List Card) : Type 0 where
@@ -72,6 +70,7 @@ pub record Viewing (m : Meaning) (file : List ℕ) (cards : List Card) (e : Even
   pub held : (d : Dataset) → Holds file cards d → reply m (Some d) (length (e .buffer)) (e .call) ≡ Some (e .answer)
   pub cards-same : out ≡ cards
 
+-- only a granted write changes the buffer
 abbrev pub buffer-after : Option Dataset → Call → List ℕ → List ℕ
 buffer-after s Read b = b
 buffer-after s (Remove k) b = b
@@ -94,5 +93,6 @@ Performs m file cards e out (More k j) = Viewing m file cards e out × (e .left 
 Performs m file cards e out Size = Viewing m file cards e out × (e .left ≡ e .buffer)
 Performs m file cards e out Write = Viewing m file cards e out × ((d : Dataset) → Holds file cards d → e .left ≡ written-over d (e .buffer))
 
+-- the call that the event has
 abbrev pub performs : Meaning → List ℕ → List Card → Event → List Card → Type 0
 performs m file cards e out = Performs m file cards e out (e .call)

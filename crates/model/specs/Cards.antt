@@ -22,9 +22,11 @@ state-number Voided = 1
 state-number Emptied = 2
 state-number Blank = 3
 
+-- a card that names no line
 abbrev pub blank : Card
 blank = record { byte = 0; state = Blank }
 
+-- all of them are blank
 abbrev pub Blanks : List Card → Type 0
 Blanks cards = Every (λ c. c ≡ blank) cards
 
@@ -35,12 +37,14 @@ Points (text t more) = ⊥
 Points void = Unit {0}
 Points (pointer i) = Unit {0}
 
+-- what the state leaves of a payload
 abbrev pub after : State → Payload → Payload
 after Filed p = p
 after Voided p = void
 after Emptied p = none
 after Blank p = p
 
+-- on which payloads a state may stand
 abbrev pub Allowed : State → Payload → Type 0
 Allowed Filed p = Unit {0}
 Allowed Voided p = Points p
@@ -72,11 +76,13 @@ FilesAll ps [] (e ∷ es) = ⊥
 FilesAll ps (c ∷ cs) [] = ⊥
 FilesAll ps (c ∷ cs) (e ∷ es) = Files ps c e × FilesAll ps cs es
 
+-- each begins behind the one before
 abbrev pub Rising : List Card → Type 0
 Rising [] = Unit {0}
 Rising (c ∷ []) = Unit {0}
 Rising (c ∷ d ∷ cs) = (c .byte < d .byte) × Rising (d ∷ cs)
 
+-- the cards before the first blank file the entries of d, which is a dataset; the file passes the rules 1 to 10
 pub record Holds (file : List ℕ) (cards : List Card) (d : Dataset) : Type 0 where
   pub placed : List Placed
   pub passes : Passes file placed

@@ -17,7 +17,7 @@ use Rattle.model.specs.Datasets as dataset
 use Rattle.model.specs.Files.{HasLines}
 use Rattle.model.specs.Books.{Meaning}
 use Rattle.model.specs.Kinds.{cut, IsDate, IsDateValue, IsExact, IsTime, IsAge}
-use Rattle.model.specs.Tables.{Table, at, one, must, many, home, meaning-of}
+use Rattle.model.specs.Tables.{TableRow, Table, at, one, must, many, home, meaning-of}
 use Rattle.model.specs.Rules.{Belongs}
 use Rattle.model.specs.Removal.{removed, card-count}
 use Rattle.model.specs.Refusals.{Refuses, fault}
@@ -128,12 +128,16 @@ lees = named "@F1@" "FAM" none (leaf "HUSB" (to "@I10@") (leaf "CHIL" (to "@I1@"
 abbrev pub lees-tree : Dataset
 lees-tree = tree (version end) (ann ∷ bob ∷ lees ∷ [])
 
--- a society with an address, whose name and whose editor are required
+-- a row for many structures of which one is required
+abbrev pub must-many : String → ℕ → Context → TableRow
+must-many tag t c = record { context = c; tag = codes tag; row = record { typed = t; required = true; many = true } }
+
+-- a club that has to have a name, perhaps more than one, and an editor
 abbrev pub small-table : Table
 small-table = record {
   rows = at Top (must "HEAD" 0 ∷ many "CLUB" 1 ∷ many "INDI" 2 ∷ [])
       ++ at (Under 0) (one "PRES" 6 ∷ [])
-      ++ at (Under 1) (must "NAME" 3 ∷ must "EDIT" 4 ∷ [])
+      ++ at (Under 1) (must-many "NAME" 3 ∷ must "EDIT" 4 ∷ [])
       ++ at (Under 2) (one "LIFE" 5 ∷ [])
       ++ at (Under 5) (one "PART" 5 ∷ one "NOTE" 3 ∷ [])
       ++ at (Under 3) (one "LANG" 7 ∷ []);

@@ -84,12 +84,15 @@ pub record Twins (d e : Dataset) : Type 0 where
 abbrev pub TakesOut : Meaning → Dataset → ℕ → List Record → Record → List Record → Type 0
 TakesOut m d k before r after = removed m d k ≡ Some (settled (d .header) (before ++ after, r .identifier))
 
+-- what makes calls alike: the call with its card and number, and the length of the buffer
 abbrev pub alike : List Event → List (Call × ℕ)
 alike es = map (λ e. (e .call, length (e .buffer))) es
 
+-- what the calls answered
 abbrev pub answers : List Event → List Reply
 answers es = map (λ e. e .answer) es
 
+-- no call of them is a reading
 abbrev pub NoReading : List Event → Type 0
 NoReading es = Every (λ e. e .call ≡ Read → ⊥) es
 
@@ -102,12 +105,15 @@ written-by opened b = []
 written-by (seen x) b = []
 written-by (line l) b = []
 
+-- what a call put into its buffer
 abbrev pub put : Event → List ℕ
 put e = elim (e .call) [ Read ↦ [] | Remove k ↦ [] | Open ↦ [] | Count ↦ [] | Look k ↦ [] | More k j ↦ [] | Size ↦ [] | Write ↦ written-by (e .answer) (e .left) ]
 
+-- what the buffers held before the calls
 abbrev pub buffers : List Event → List (List ℕ)
 buffers es = map (λ e. e .buffer) es
 
+-- what they held after
 abbrev pub lefts : List Event → List (List ℕ)
 lefts es = map (λ e. e .left) es
 

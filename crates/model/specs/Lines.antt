@@ -17,6 +17,7 @@ use Rattle.model.specs.Characters.{Clean}
 abbrev pub tag-char : ℕ → Bool
 tag-char c = asciiUpper c || asciiDigit c || eqb c 95
 
+-- all of them
 abbrev pub tag-chars : List ℕ → Bool
 tag-chars [] = true
 tag-chars (c ∷ cs) = tag-char c && tag-chars cs
@@ -27,6 +28,7 @@ is-tag [] = false
 is-tag (c ∷ []) = asciiUpper c
 is-tag (c ∷ d ∷ cs) = (asciiUpper c || eqb c 95) && tag-chars (d ∷ cs)
 
+-- the pointer to no record
 abbrev pub VOID : List ℕ
 VOID = codes "@VOID@"
 
@@ -50,6 +52,7 @@ abbrev pub escaped : List ℕ → List ℕ
 escaped [] = []
 escaped (c ∷ cs) = cond (eqb c 64) (64 ∷ c ∷ cs) (c ∷ cs)
 
+-- neither CR nor LF stands among them
 abbrev pub no-end : List ℕ → Bool
 no-end [] = true
 no-end (c ∷ cs) = not (eqb c 10 || eqb c 13) && no-end cs
@@ -59,34 +62,41 @@ pub record TextLine (t : List ℕ) : Type 0 where
   pub clean : Clean t
   pub one : no-end t ≡ true
 
+-- a pointer is an identifier, and a text is a line of characters that is not empty
 abbrev pub GoodValue : Value → Type 0
 GoodValue nothing = Unit {0}
 GoodValue void = Unit {0}
 GoodValue (pointer i) = Identifier i
 GoodValue (text t) = TextLine t × (0 < length t)
 
+-- a level, an identifier if there is one, a tag and a value
 pub record Line : Type 0 where
   pub level : ℕ
   pub identifier : Option (List ℕ)
   pub tag : List ℕ
   pub value : Value
 
+-- the line with these parts
 abbrev pub line-of : ℕ → Option (List ℕ) → List ℕ → Value → Line
 line-of level i tag v = record { level = level; identifier = i; tag = tag; value = v }
 
+-- an identifier, if there is one
 abbrev pub GoodIdentifier : Option (List ℕ) → Type 0
 GoodIdentifier None = Unit {0}
 GoodIdentifier (Some i) = Identifier i
 
+-- a line whose parts have their forms
 pub record GoodLine (l : Line) : Type 0 where
   pub identified : GoodIdentifier (l .identifier)
   pub tagged : is-tag (l .tag) ≡ true
   pub valued : GoodValue (l .value)
 
+-- with a space behind it
 abbrev pub spell-identifier : Option (List ℕ) → List ℕ
 spell-identifier None = []
 spell-identifier (Some i) = i ++ 32 ∷ []
 
+-- with a space before it
 abbrev pub spell-value : Value → List ℕ
 spell-value nothing = []
 spell-value void = 32 ∷ VOID

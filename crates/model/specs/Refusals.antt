@@ -25,11 +25,13 @@ use Rattle.model.specs.declared.Fault.{Fault}
 use Rattle.model.specs.declared.Refusal.{Refusal}
 use Rattle.model.specs.declared.Refusal.the-variants.{Unheld, Foreign, Fixed, Held, Past, Oversized, Cramped}
 
+-- what a refusal with a place tells
 abbrev pub fault : ℕ → ℕ → ℕ → Fault
 fault number line byte = record { number = number; line = line; byte = byte; missing = None }
 
 -- The refusals of the calls on a drawer. Line and byte are 0 from 20 on.
 
+-- the number of each
 abbrev pub refusal-number : Refusal → ℕ
 refusal-number Unheld = 20
 refusal-number Foreign = 21
@@ -39,6 +41,7 @@ refusal-number Past = 24
 refusal-number Oversized = 25
 refusal-number Cramped = 26
 
+-- what each tells
 abbrev pub refusal-fault : Refusal → Fault
 refusal-fault r = fault (refusal-number r) 0 0
 
@@ -54,13 +57,16 @@ pub record First (P : ℕ → Type 0) (n i : ℕ) : Type 0 where
 abbrev pub is-end-at : List ℕ → ℕ → Bool
 is-end-at file i = eqb (getD file i 0) 10 || (eqb (getD file i 0) 13 && not (eqb (getD file (i + 1) 0) 10))
 
+-- how many lines end before the byte
 abbrev pub ends-before : List ℕ → ℕ → ℕ
 ends-before file Prim.Native.Nat.zero = 0
 ends-before file (Prim.Native.Nat.suc b) = cond (is-end-at file b) 1 0 + ends-before file b
 
+-- counted from 1
 abbrev pub line-at : List ℕ → ℕ → ℕ
 line-at file b = 1 + ends-before file b
 
+-- not longer than a file may be
 abbrev pub Short : List ℕ → Type 0
 Short file = length file ≤ 16777216
 
@@ -74,9 +80,11 @@ pub record BannedAt (file : List ℕ) (b : ℕ) : Type 0 where
 
 -- The longest run of lines from the front, and what follows it.
 
+-- the bytes begin with these
 abbrev pub Starts : List ℕ → List ℕ → Type 0
 Starts bs front = (rest : List ℕ) × (bs ≡ front ++ rest)
 
+-- no line with its end stands at the front
 pub record NoLine (rest : List ℕ) : Type 0 where
   pub none : (p : Placed) → GoodPlaced p → Starts rest (bytes-of p) → ⊥
 
@@ -85,6 +93,7 @@ abbrev pub EndsWhole : List ℕ → List Placed → List ℕ → Type 0
 EndsWhole file [] rest = Unit {0}
 EndsWhole file (p ∷ ps) rest = (p .ended ≡ 13 ∷ [] → Starts (all-bytes ps ++ rest) (10 ∷ []) → ⊥) × EndsWhole file ps rest
 
+-- ps are all the lines from the front, and then comes no line, or there is none at all
 pub record Unlined (file : List ℕ) (ps : List Placed) : Type 0 where
   pub mark : List ℕ
   pub marked : (mark ≡ MARK) ⊎ ((mark ≡ []) × (Starts file MARK → ⊥))
@@ -96,9 +105,11 @@ pub record Unlined (file : List ℕ) (ps : List Placed) : Type 0 where
   pub ends : NoLine rest
   pub wrong : (0 < length rest) ⊎ (length ps ≡ 0)
 
+-- the lines alone
 abbrev pub lines-of : List Placed → List Line
 lines-of ps = map (λ p. p .line) ps
 
+-- where the line at a place begins
 abbrev pub byte-at : List Placed → ℕ → ℕ
 byte-at ps i = getD (map (λ p. p .byte) ps) i 0
 
@@ -113,6 +124,7 @@ abbrev pub others-from : ℕ → List Line → List ℕ
 others-from i [] = []
 others-from i (l ∷ ls) = cond (sameBytes (l .tag) CONT) (others-from (i + 1) ls) (i ∷ others-from (i + 1) ls)
 
+-- those of a file
 abbrev pub others : List Placed → List ℕ
 others ps = others-from 0 (lines-of ps)
 
@@ -120,9 +132,11 @@ others ps = others-from 0 (lines-of ps)
 abbrev pub Keeps11 : ℕ → List Placed → ℕ → Type 0
 Keeps11 room ps i = (k : ℕ) → k < length (others ps) → getD (others ps) k 0 ≡ i → k < min room 65535
 
+-- no line before has its identifier
 abbrev pub Keeps12 : List Line → ℕ → Type 0
 Keeps12 ls i = (x : List ℕ) → at ls i .identifier ≡ Some x → (j : ℕ) → j < i → at ls j .identifier ≡ Some x → ⊥
 
+-- some line has the identifier that its pointer names
 abbrev pub Keeps13 : List Line → ℕ → Type 0
 Keeps13 ls i = (x : List ℕ) → at ls i .value ≡ pointer x → (j : ℕ) × (j < length ls) × (at ls j .identifier ≡ Some x)
 
@@ -163,6 +177,7 @@ pub record BreaksNeeds (m : Meaning) (ps : List Placed) (ss : List Situation) (f
 pub data LineRule : Type 0 where
   levels first last steps named continued room apart aimed : LineRule
 
+-- the number of each
 abbrev pub line-rule-number : LineRule → ℕ
 line-rule-number levels = 5
 line-rule-number first = 6
@@ -174,6 +189,7 @@ line-rule-number room = 11
 line-rule-number apart = 12
 line-rule-number aimed = 13
 
+-- what each asks of the line at a place
 abbrev pub LineKeeps : LineRule → ℕ → List Placed → ℕ → Type 0
 LineKeeps levels cards ps i = Keeps5 (lines-of ps) i
 LineKeeps first cards ps i = Keeps6 (lines-of ps) i
@@ -185,6 +201,7 @@ LineKeeps room cards ps i = Keeps11 cards ps i
 LineKeeps apart cards ps i = Keeps12 (lines-of ps) i
 LineKeeps aimed cards ps i = Keeps13 (lines-of ps) i
 
+-- of all lines
 abbrev pub LinesKeep : LineRule → ℕ → List Placed → Type 0
 LinesKeep r cards ps = (i : ℕ) → i < length ps → LineKeeps r cards ps i
 
@@ -198,6 +215,7 @@ pub record LineRefusal (cards : ℕ) (ps : List Placed) (f : Fault) : Type 0 whe
 pub data BookRule : Type 0 where
   known taken aimed-right single needed filled : BookRule
 
+-- the number of each
 abbrev pub book-rule-number : BookRule → ℕ
 book-rule-number known = 14
 book-rule-number taken = 15
@@ -206,6 +224,7 @@ book-rule-number single = 17
 book-rule-number needed = 18
 book-rule-number filled = 19
 
+-- what each asks of a situation
 abbrev pub BookKeeps : Meaning → Dataset → BookRule → Situation → Type 0
 BookKeeps m d known s = Keeps14 s
 BookKeeps m d taken s = Keeps15 m s
@@ -214,6 +233,7 @@ BookKeeps m d single s = Keeps17 s
 BookKeeps m d needed s = Keeps18 m s
 BookKeeps m d filled s = Keeps19 m s
 
+-- what each asks of the top
 abbrev pub TopKeeps : Meaning → Dataset → BookRule → Type 0
 TopKeeps m d known = Unit {0}
 TopKeeps m d taken = Unit {0}
@@ -222,6 +242,7 @@ TopKeeps m d single = Unit {0}
 TopKeeps m d needed = NeedsMet m Top (top-types m (tops d))
 TopKeeps m d filled = Unit {0}
 
+-- what is told of the first that breaks it
 abbrev pub BookTells : Meaning → List Placed → Dataset → BookRule → Fault → Type 0
 BookTells m ps d known f = BreaksBook 14 ps (situations m d) Keeps14 f
 BookTells m ps d taken f = BreaksBook 15 ps (situations m d) (Keeps15 m) f
@@ -230,6 +251,7 @@ BookTells m ps d single f = BreaksBook 17 ps (situations m d) Keeps17 f
 BookTells m ps d needed f = BreaksTop m ps d f ⊎ (NeedsMet m Top (top-types m (tops d)) × BreaksNeeds m ps (situations m d) f)
 BookTells m ps d filled f = BreaksBook 19 ps (situations m d) (Keeps19 m) f
 
+-- the first rule that something breaks, and the first card that breaks it
 pub record BookRefusal (m : Meaning) (ps : List Placed) (d : Dataset) (f : Fault) : Type 0 where
   pub rule : BookRule
   pub earlier : (r : BookRule) → book-rule-number r < book-rule-number rule → TopKeeps m d r × Every (BookKeeps m d r) (situations m d)

@@ -18,18 +18,22 @@ use Rattle.model.specs.Datasets.{HEAD, Payload, none, text, void, pointer, Str
 use Rattle.model.specs.Kinds.{may-be-emptied}
 use Rattle.model.specs.Rules.{below, typed, types-of, top-types}
 
+-- two structures have one type
 abbrev pub same-type : Option ℕ → Option ℕ → Bool
 same-type None o = false
 same-type (Some t) None = false
 same-type (Some t) (Some u) = eqb t u
 
+-- how many of these have the type
 abbrev pub how-many : Option ℕ → List (Option ℕ) → ℕ
 how-many t [] = 0
 how-many t (u ∷ us) = cond (same-type t u) 1 0 + how-many t us
 
+-- whether the row is required
 abbrev pub required : Meaning → Context → List ℕ → Bool
 required m c tag = elim (m .row c tag) [ None ↦ false | Some r ↦ r .required ]
 
+-- the kind of a tag in a context
 abbrev pub kind-of : Meaning → Context → List ℕ → Kind
 kind-of m c tag = elim (m .row c tag) [ None ↦ Nothing | Some r ↦ m .kind (r .typed) ]
 
@@ -37,6 +41,7 @@ kind-of m c tag = elim (m .row c tag) [ None ↦ Nothing | Some r ↦ m .kind (r
 abbrev pub must-stay : Meaning → Context → List (Option ℕ) → List ℕ → Bool
 must-stay m c all tag = required m c tag && eqb (how-many (typed m c tag) all) 1
 
+-- the kind of pointers
 abbrev pub is-pointer-kind : Kind → Bool
 is-pointer-kind Nothing = false
 is-pointer-kind Text = false
@@ -59,6 +64,7 @@ is-pointer-kind Anything = false
 abbrev pub can-be-emptied : Meaning → Context → List ℕ → Bool
 can-be-emptied m c tag = eqb (m .needs (below m c tag)) 0 && (is-pointer-kind (kind-of m c tag) || may-be-emptied (kind-of m c tag))
 
+-- a pointer becomes void, and a text goes
 abbrev pub without-content : Payload → Payload
 without-content none = none
 without-content (text t more) = none
@@ -71,6 +77,7 @@ pub data Fate : Type 0 where
   stays-empty : Fate
   held : Fate
 
+-- by the same rule for every structure that a removal meets
 abbrev pub fate : Meaning → Context → List (Option ℕ) → List ℕ → Fate
 fate m c all tag = cond (must-stay m c all tag) (cond (can-be-emptied m c tag) stays-empty held) goes
 
@@ -81,13 +88,16 @@ is-none (text t more) = false
 is-none void = false
 is-none (pointer i) = false
 
+-- there is no structure
 abbrev pub is-end : Structures → Bool
 is-end end = true
 is-end (next tag p subs rest) = false
 
+-- it has neither payload nor substructure, and is not excused
 abbrev pub left-bare : Meaning → Context → List ℕ → Payload → Structures → Bool
 left-bare m c tag p subs = is-none p && is-end subs && not (required m c tag && may-be-emptied (kind-of m c tag))
 
+-- how many structures there are, with those below
 abbrev pub size : Structures → ℕ
 size end = 0
 size (next tag p subs rest) = 1 + size subs + size rest
@@ -100,6 +110,7 @@ first-removed m c all tag p rest = elim (fate m c all tag) [ goes ↦ Some rest 
 abbrev pub kept : Meaning → Context → List (Option ℕ) → List ℕ → Payload → Structures → Structures → Option Structures
 kept m c all tag p rest subs = cond (left-bare m c tag p subs) (first-removed m c all tag p rest) (Some (next tag p subs rest))
 
+-- what follows, if something was left
 abbrev pub then : {A B : Type 0} → Option A → (A → Option B) → Option B
 then None f = None
 then (Some x) f = f x
@@ -119,18 +130,23 @@ removed-in m c all (next tag p subs rest) (suc k) =
 abbrev pub Left : Type 0
 Left = List Record × Option (List ℕ)
 
+-- a record that stays without content
 abbrev pub without-substructures : Record → Record
 without-substructures r = record { identifier = r .identifier; tag = r .tag; payload = without-content (r .payload); subs = end }
 
+-- a record with other substructures
 abbrev pub with-subs : Record → Structures → Record
 with-subs r subs = record { identifier = r .identifier; tag = r .tag; payload = r .payload; subs = subs }
 
+-- the records without the first of these, or with it emptied; none where it is held
 abbrev pub record-removed : Meaning → List (Option ℕ) → Record → List Record → Option Left
 record-removed m all r rs = elim (fate m Top all (r .tag)) [ goes ↦ Some (rs, r .identifier) | stays-empty ↦ Some (without-substructures r ∷ rs, None) | held ↦ None ]
 
+-- with other substructures; where they leave it bare, it is removed by the same rule
 abbrev pub record-kept : Meaning → List (Option ℕ) → Record → List Record → Structures → Option Left
 record-kept m all r rs subs = cond (left-bare m Top (r .tag) (r .payload) subs) (record-removed m all r rs) (Some (with-subs r subs ∷ rs, None))
 
+-- the records without structure number k, counted with all that stand below
 abbrev pub removed-of : Meaning → List (Option ℕ) → List Record → ℕ → Option Left
 removed-of m all [] k = Some ([], None)
 removed-of m all (r ∷ rs) zero = record-removed m all r rs
@@ -147,17 +163,21 @@ voided-payload i (text t more) = text t more
 voided-payload i void = void
 voided-payload i (pointer j) = cond (sameBytes i j) void (pointer j)
 
+-- in a row of structures and below
 abbrev pub voided : List ℕ → Structures → Structures
 voided i end = end
 voided i (next tag p subs rest) = next tag (voided-payload i p) (voided i subs) (voided i rest)
 
+-- in a record and below
 abbrev pub voided-record : List ℕ → Record → Record
 voided-record i r = record { identifier = r .identifier; tag = r .tag; payload = voided-payload i (r .payload); subs = voided i (r .subs) }
 
+-- what is left as a dataset, with its pointers
 abbrev pub settled : Structures → Left → Dataset
 settled header (rs, None) = record { header = header; records = rs }
 settled header (rs, Some i) = record { header = voided i header; records = map (voided-record i) rs }
 
+-- how many cards a dataset has
 abbrev pub card-count : Dataset → ℕ
 card-count d = length (entries d)
 

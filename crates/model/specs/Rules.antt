@@ -22,13 +22,16 @@ use Rattle.model.specs.Kinds.{Takes, may-be-emptied}
 abbrev pub below : Meaning → Context → List ℕ → Context
 below m c tag = elim (m .row c tag) [ None ↦ Under (m .types) | Some r ↦ Under (r .typed) ]
 
+-- the type of a tag in a context, where it has one
 abbrev pub typed : Meaning → Context → List ℕ → Option ℕ
 typed m c tag = elim (m .row c tag) [ None ↦ None | Some r ↦ Some (r .typed) ]
 
+-- the types of a row of structures
 abbrev pub types-of : Meaning → Context → Structures → List (Option ℕ)
 types-of m c end = []
 types-of m c (next tag p subs rest) = typed m c tag ∷ types-of m c rest
 
+-- the types of records
 abbrev pub top-types : Meaning → List Record → List (Option ℕ)
 top-types m [] = []
 top-types m (r ∷ rs) = typed m Top (r .tag) ∷ top-types m rs
@@ -42,14 +45,17 @@ pub record Situation : Type 0 where
   pub inside : Context
   pub subs : Structures
 
+-- the situation of a structure with these parts
 abbrev pub situation : Meaning → Bool → Context → List (Option ℕ) → List ℕ → Payload → Structures → Situation
 situation m h c before tag p subs = record { header = h; row = m .row c tag; before = before; payload = p; inside = below m c tag; subs = subs }
 
+-- those of a row of structures, each followed by those below it
 abbrev pub situations-in : Meaning → Context → List (Option ℕ) → Structures → List Situation
 situations-in m c before end = []
 situations-in m c before (next tag p subs rest) =
     situation m false c before tag p subs ∷ situations-in m (below m c tag) [] subs ++ situations-in m c (before ++ typed m c tag ∷ []) rest
 
+-- those of records; the first may be the header
 abbrev pub situations-of : Meaning → Bool → List (Option ℕ) → List Record → List Situation
 situations-of m h before [] = []
 situations-of m h before (r ∷ rs) =
@@ -63,18 +69,23 @@ situations m d = situations-of m true [] (tops d)
 abbrev pub WithRow : Situation → (Row → Type 0) → Type 0
 WithRow s P = Cases (s .row) (Unit {0}) P
 
+-- the tag has a row
 abbrev pub Keeps14 : Situation → Type 0
 Keeps14 s = Cases (s .row) ⊥ (λ r. Unit {0})
 
+-- the payload is of its kind
 abbrev pub Keeps15 : Meaning → Situation → Type 0
 Keeps15 m s = WithRow s (λ r. Takes m (m .kind (r .typed)) (s .payload))
 
+-- the records that the identifier names have the type
 abbrev pub NamesType : Meaning → Dataset → List ℕ → ℕ → Type 0
 NamesType m d i t = Every (λ r. r .identifier ≡ Some i → typed m Top (r .tag) ≡ Some t) (d .records)
 
+-- a pointer of a pointer kind names a record of its type
 abbrev pub Keeps16 : Meaning → Dataset → Situation → Type 0
 Keeps16 m d s = WithRow s (λ r. (t : ℕ) (i : List ℕ) → m .kind (r .typed) ≡ Pointer t → s .payload ≡ pointer i → NamesType m d i t)
 
+-- a structure that follows one of its type has a row for many
 abbrev pub Keeps17 : Situation → Type 0
 Keeps17 s = WithRow s (λ r. Has (s .before) (Some (r .typed)) → r .many ≡ true)
 
@@ -82,18 +93,23 @@ Keeps17 s = WithRow s (λ r. Has (s .before) (Some (r .typed)) → r .many ≡ t
 abbrev pub NeedsMet : Meaning → Context → List (Option ℕ) → Type 0
 NeedsMet m c ts = (j t : ℕ) → m .need c j ≡ Some t → Has ts (Some t)
 
+-- what is needed below it stands there
 abbrev pub Keeps18 : Meaning → Situation → Type 0
 Keeps18 m s = NeedsMet m (s .inside) (types-of m (s .inside) (s .subs))
 
+-- neither payload nor substructure
 abbrev pub Bare : Payload → Structures → Type 0
 Bare p subs = (p ≡ none) × (subs ≡ end)
 
+-- the header, or one that is required and may be emptied
 abbrev pub Excused : Meaning → Bool → Row → Type 0
 Excused m h r = (h ≡ true) ⊎ ((r .required ≡ true) × (may-be-emptied (m .kind (r .typed)) ≡ true))
 
+-- a bare structure is excused
 abbrev pub Keeps19 : Meaning → Situation → Type 0
 Keeps19 m s = WithRow s (λ r. Bare (s .payload) (s .subs) → Excused m (s .header) r)
 
+-- it breaks none of the rules 14 to 19
 pub record Belongs (m : Meaning) (d : Dataset) : Type 0 where
   pub known : Every Keeps14 (situations m d)
   pub taken : Every (Keeps15 m) (situations m d)

@@ -27,6 +27,7 @@ pub record Within (file : List ℕ) (room : ℕ) (d : Dataset) : Type 0 where
   pub short : length file ≤ 16777216
   pub few : card-count d ≤ min room 65535
 
+-- d is a dataset of the book with the lines of the file, within the limits
 pub record ReadsAs (m : Meaning) (file : List ℕ) (room : ℕ) (d : Dataset) : Type 0 where
   pub is : IsDataset d
   pub belongs : Belongs m d
@@ -58,6 +59,7 @@ shown-payload (text t more) = text t []
 shown-payload void = void
 shown-payload (pointer i) = pointer i
 
+-- what a look shows of an entry
 abbrev pub shown : Entry → Entry
 shown e = entry (e .level) (e .identifier) (e .tag) (shown-payload (e .payload))
 
@@ -65,13 +67,16 @@ shown e = entry (e .level) (e .identifier) (e .tag) (shown-payload (e .payload))
 abbrev pub Plain : Type 0
 Plain = Option Dataset
 
+-- what stands after a removal, granted or refused
 abbrev pub after-removal : Meaning → Dataset → ℕ → Dataset
 after-removal m d k = cond (eqb k 0 || leb (card-count d) (k + 1)) d (elim (removed m d k) [ None ↦ d | Some e ↦ e ])
 
+-- the dataset that a reading gives, or nothing where there is none
 abbrev pub PlainRead : Meaning → List ℕ → ℕ → Plain → Type 0
 PlainRead m file room None = (d : Dataset) → ReadsAs m file room d → ⊥
 PlainRead m file room (Some d) = ReadsAs m file room d
 
+-- only a reading and a removal change the state
 abbrev pub PlainStep : Meaning → List ℕ → ℕ → Call → Plain → Plain → Type 0
 PlainStep m file room Read s t = PlainRead m file room t
 PlainStep m file room (Remove k) s t = t ≡ elim s [ None ↦ None | Some d ↦ Some (after-removal m d k) ]
@@ -82,17 +87,21 @@ PlainStep m file room (More k j) s t = t ≡ s
 PlainStep m file room Size s t = t ≡ s
 PlainStep m file room Write s t = t ≡ s
 
+-- what a removal answers
 abbrev pub remove-reply : Meaning → Dataset → ℕ → Reply
 remove-reply m d k =
     cond (eqb k 0 || leb (card-count d) (k + 1)) (refused 22)
     (elim (removed m d k) [ None ↦ refused 23 | Some e ↦ number (card-count d - card-count e) ])
 
+-- what a look answers
 abbrev pub look-reply : Dataset → ℕ → Reply
 look-reply d k = elim (nth (entries d) k) [ None ↦ refused 24 | Some e ↦ seen (shown e) ]
 
+-- what is answered of a further line
 abbrev pub more-reply : Dataset → ℕ → ℕ → Reply
 more-reply d k j = elim (nth (entries d) k) [ None ↦ refused 24 | Some e ↦ line (nth (further (e .payload)) j) ]
 
+-- what a write answers
 abbrev pub write-reply : Dataset → ℕ → Reply
 write-reply d room =
     cond (ltb 16777216 (length (written d))) (refused 25) (cond (ltb room (length (written d))) (refused 26) (number (length (written d))))
