@@ -1,10 +1,10 @@
 ghost use mathlib.Core.Path.{_≡_};
 ghost use Rattle.model.specs.Tables.{home};
 ghost use Rattle.books.specs.Entries.{once, often, row-of, Entries, WordsOf};
+use super::book::Book;
 use model::Context;
 use model::Kind;
 use model::Row;
-use super::book::Book;
 
 // The home book is a table: the rows of each context, the kind of each type, and the sets of words.
 #[derive(Clone, Copy, PartialEq, Eq, Debug)]
@@ -35,119 +35,325 @@ impl Entry {
     fn row(&self) -> Row
         ensures { λ r. ⌜ r ≡ row-of (now (self .entry)) ⌝ }
     {
-        Row { typed: self.typed, required: self.required(), many: self.times == Times::Often }
+        Row {
+            typed: self.typed,
+            required: self.required(),
+            many: self.times == Times::Often,
+        }
     }
 }
 
 const HEADER: u16 = 0;
+
 const PERSON: u16 = 1;
+
 const FAMILY: u16 = 2;
+
 const SHARED_NOTE: u16 = 3;
+
 const SUBMITTER: u16 = 4;
+
 const FORMAT: u16 = 5;
+
 const FILED: u16 = 6;
+
 const SUBMITTED_BY: u16 = 7;
+
 const NOTE: u16 = 8;
+
 const VERSION: u16 = 9;
+
 const TIME: u16 = 10;
+
 const RESTRICTION: u16 = 11;
+
 const PERSONAL_NAME: u16 = 12;
+
 const SEX: u16 = 13;
+
 const BIRTH: u16 = 14;
+
 const DEATH: u16 = 15;
+
 const CHILD_OF: u16 = 16;
+
 const SPOUSE_OF: u16 = 17;
+
 const NOTE_POINTER: u16 = 18;
+
 const ALIAS: u16 = 19;
+
 const SUBMITTER_NAME: u16 = 20;
+
 const NAME_TYPE: u16 = 21;
+
 const GIVEN_NAME: u16 = 22;
+
 const SURNAME: u16 = 23;
+
 const DATE: u16 = 24;
+
 const PLACE: u16 = 25;
+
 const AGE: u16 = 26;
+
 const PHRASE: u16 = 27;
+
 const MAP: u16 = 28;
+
 const LATITUDE: u16 = 29;
+
 const LONGITUDE: u16 = 30;
+
 const MARRIAGE: u16 = 31;
+
 const HUSBAND: u16 = 32;
+
 const WIFE: u16 = 33;
+
 const CHILD: u16 = 34;
 
 const AT_TOP: [Entry; 5] = [
-    Entry { tag: b"HEAD", typed: HEADER, times: Times::Once },
-    Entry { tag: b"INDI", typed: PERSON, times: Times::Often },
-    Entry { tag: b"FAM", typed: FAMILY, times: Times::Often },
-    Entry { tag: b"SNOTE", typed: SHARED_NOTE, times: Times::Often },
-    Entry { tag: b"SUBM", typed: SUBMITTER, times: Times::Often },
+    Entry {
+        tag: b"HEAD",
+        typed: HEADER,
+        times: Times::Once,
+    },
+    Entry {
+        tag: b"INDI",
+        typed: PERSON,
+        times: Times::Often,
+    },
+    Entry {
+        tag: b"FAM",
+        typed: FAMILY,
+        times: Times::Often,
+    },
+    Entry {
+        tag: b"SNOTE",
+        typed: SHARED_NOTE,
+        times: Times::Often,
+    },
+    Entry {
+        tag: b"SUBM",
+        typed: SUBMITTER,
+        times: Times::Often,
+    },
 ];
 
 const OF_HEADER: [Entry; 4] = [
-    Entry { tag: b"GEDC", typed: FORMAT, times: Times::Once },
-    Entry { tag: b"DATE", typed: FILED, times: Times::AtMostOnce },
-    Entry { tag: b"SUBM", typed: SUBMITTED_BY, times: Times::AtMostOnce },
-    Entry { tag: b"NOTE", typed: NOTE, times: Times::AtMostOnce },
+    Entry {
+        tag: b"GEDC",
+        typed: FORMAT,
+        times: Times::Once,
+    },
+    Entry {
+        tag: b"DATE",
+        typed: FILED,
+        times: Times::AtMostOnce,
+    },
+    Entry {
+        tag: b"SUBM",
+        typed: SUBMITTED_BY,
+        times: Times::AtMostOnce,
+    },
+    Entry {
+        tag: b"NOTE",
+        typed: NOTE,
+        times: Times::AtMostOnce,
+    },
 ];
 
-const OF_FORMAT: [Entry; 1] = [Entry { tag: b"VERS", typed: VERSION, times: Times::Once }];
+const OF_FORMAT: [Entry; 1] = [Entry {
+    tag: b"VERS",
+    typed: VERSION,
+    times: Times::Once,
+}];
 
-const OF_FILED: [Entry; 1] = [Entry { tag: b"TIME", typed: TIME, times: Times::AtMostOnce }];
+const OF_FILED: [Entry; 1] = [Entry {
+    tag: b"TIME",
+    typed: TIME,
+    times: Times::AtMostOnce,
+}];
 
 const OF_PERSON: [Entry; 10] = [
-    Entry { tag: b"RESN", typed: RESTRICTION, times: Times::AtMostOnce },
-    Entry { tag: b"NAME", typed: PERSONAL_NAME, times: Times::Often },
-    Entry { tag: b"SEX", typed: SEX, times: Times::AtMostOnce },
-    Entry { tag: b"BIRT", typed: BIRTH, times: Times::Often },
-    Entry { tag: b"DEAT", typed: DEATH, times: Times::Often },
-    Entry { tag: b"FAMC", typed: CHILD_OF, times: Times::Often },
-    Entry { tag: b"FAMS", typed: SPOUSE_OF, times: Times::Often },
-    Entry { tag: b"ALIA", typed: ALIAS, times: Times::Often },
-    Entry { tag: b"NOTE", typed: NOTE, times: Times::Often },
-    Entry { tag: b"SNOTE", typed: NOTE_POINTER, times: Times::Often },
+    Entry {
+        tag: b"RESN",
+        typed: RESTRICTION,
+        times: Times::AtMostOnce,
+    },
+    Entry {
+        tag: b"NAME",
+        typed: PERSONAL_NAME,
+        times: Times::Often,
+    },
+    Entry {
+        tag: b"SEX",
+        typed: SEX,
+        times: Times::AtMostOnce,
+    },
+    Entry {
+        tag: b"BIRT",
+        typed: BIRTH,
+        times: Times::Often,
+    },
+    Entry {
+        tag: b"DEAT",
+        typed: DEATH,
+        times: Times::Often,
+    },
+    Entry {
+        tag: b"FAMC",
+        typed: CHILD_OF,
+        times: Times::Often,
+    },
+    Entry {
+        tag: b"FAMS",
+        typed: SPOUSE_OF,
+        times: Times::Often,
+    },
+    Entry {
+        tag: b"ALIA",
+        typed: ALIAS,
+        times: Times::Often,
+    },
+    Entry {
+        tag: b"NOTE",
+        typed: NOTE,
+        times: Times::Often,
+    },
+    Entry {
+        tag: b"SNOTE",
+        typed: NOTE_POINTER,
+        times: Times::Often,
+    },
 ];
 
 const OF_PERSONAL_NAME: [Entry; 3] = [
-    Entry { tag: b"TYPE", typed: NAME_TYPE, times: Times::AtMostOnce },
-    Entry { tag: b"GIVN", typed: GIVEN_NAME, times: Times::Often },
-    Entry { tag: b"SURN", typed: SURNAME, times: Times::Often },
+    Entry {
+        tag: b"TYPE",
+        typed: NAME_TYPE,
+        times: Times::AtMostOnce,
+    },
+    Entry {
+        tag: b"GIVN",
+        typed: GIVEN_NAME,
+        times: Times::Often,
+    },
+    Entry {
+        tag: b"SURN",
+        typed: SURNAME,
+        times: Times::Often,
+    },
 ];
 
 const OF_BIRTH_OR_DEATH: [Entry; 3] = [
-    Entry { tag: b"DATE", typed: DATE, times: Times::AtMostOnce },
-    Entry { tag: b"PLAC", typed: PLACE, times: Times::AtMostOnce },
-    Entry { tag: b"AGE", typed: AGE, times: Times::AtMostOnce },
+    Entry {
+        tag: b"DATE",
+        typed: DATE,
+        times: Times::AtMostOnce,
+    },
+    Entry {
+        tag: b"PLAC",
+        typed: PLACE,
+        times: Times::AtMostOnce,
+    },
+    Entry {
+        tag: b"AGE",
+        typed: AGE,
+        times: Times::AtMostOnce,
+    },
 ];
 
 const OF_MARRIAGE: [Entry; 2] = [
-    Entry { tag: b"DATE", typed: DATE, times: Times::AtMostOnce },
-    Entry { tag: b"PLAC", typed: PLACE, times: Times::AtMostOnce },
+    Entry {
+        tag: b"DATE",
+        typed: DATE,
+        times: Times::AtMostOnce,
+    },
+    Entry {
+        tag: b"PLAC",
+        typed: PLACE,
+        times: Times::AtMostOnce,
+    },
 ];
 
 const OF_DATE: [Entry; 2] = [
-    Entry { tag: b"TIME", typed: TIME, times: Times::AtMostOnce },
-    Entry { tag: b"PHRASE", typed: PHRASE, times: Times::AtMostOnce },
+    Entry {
+        tag: b"TIME",
+        typed: TIME,
+        times: Times::AtMostOnce,
+    },
+    Entry {
+        tag: b"PHRASE",
+        typed: PHRASE,
+        times: Times::AtMostOnce,
+    },
 ];
 
-const OF_PLACE: [Entry; 1] = [Entry { tag: b"MAP", typed: MAP, times: Times::AtMostOnce }];
+const OF_PLACE: [Entry; 1] = [Entry {
+    tag: b"MAP",
+    typed: MAP,
+    times: Times::AtMostOnce,
+}];
 
 const OF_MAP: [Entry; 2] = [
-    Entry { tag: b"LATI", typed: LATITUDE, times: Times::Once },
-    Entry { tag: b"LONG", typed: LONGITUDE, times: Times::Once },
+    Entry {
+        tag: b"LATI",
+        typed: LATITUDE,
+        times: Times::Once,
+    },
+    Entry {
+        tag: b"LONG",
+        typed: LONGITUDE,
+        times: Times::Once,
+    },
 ];
 
 const OF_FAMILY: [Entry; 6] = [
-    Entry { tag: b"HUSB", typed: HUSBAND, times: Times::AtMostOnce },
-    Entry { tag: b"WIFE", typed: WIFE, times: Times::AtMostOnce },
-    Entry { tag: b"CHIL", typed: CHILD, times: Times::Often },
-    Entry { tag: b"MARR", typed: MARRIAGE, times: Times::Often },
-    Entry { tag: b"NOTE", typed: NOTE, times: Times::Often },
-    Entry { tag: b"SNOTE", typed: NOTE_POINTER, times: Times::Often },
+    Entry {
+        tag: b"HUSB",
+        typed: HUSBAND,
+        times: Times::AtMostOnce,
+    },
+    Entry {
+        tag: b"WIFE",
+        typed: WIFE,
+        times: Times::AtMostOnce,
+    },
+    Entry {
+        tag: b"CHIL",
+        typed: CHILD,
+        times: Times::Often,
+    },
+    Entry {
+        tag: b"MARR",
+        typed: MARRIAGE,
+        times: Times::Often,
+    },
+    Entry {
+        tag: b"NOTE",
+        typed: NOTE,
+        times: Times::Often,
+    },
+    Entry {
+        tag: b"SNOTE",
+        typed: NOTE_POINTER,
+        times: Times::Often,
+    },
 ];
 
-const OF_FAMILY_MEMBER: [Entry; 1] = [Entry { tag: b"PHRASE", typed: PHRASE, times: Times::AtMostOnce }];
+const OF_FAMILY_MEMBER: [Entry; 1] = [Entry {
+    tag: b"PHRASE",
+    typed: PHRASE,
+    times: Times::AtMostOnce,
+}];
 
-const OF_SUBMITTER: [Entry; 1] = [Entry { tag: b"NAME", typed: SUBMITTER_NAME, times: Times::Once }];
+const OF_SUBMITTER: [Entry; 1] = [Entry {
+    tag: b"NAME",
+    typed: SUBMITTER_NAME,
+    times: Times::Once,
+}];
 
 // The kind of each type, by its number.
 const KINDS: [Kind; 35] = [
@@ -189,14 +395,24 @@ const KINDS: [Kind; 35] = [
 ];
 
 const SEXES: u16 = 0;
+
 const RESTRICTIONS: u16 = 1;
+
 const NAME_TYPES: u16 = 2;
 
 const SEX_WORDS: [&[u8]; 4] = [b"M", b"F", b"X", b"U"];
 
 const RESTRICTION_WORDS: [&[u8]; 3] = [b"CONFIDENTIAL", b"LOCKED", b"PRIVACY"];
 
-const NAME_TYPE_WORDS: [&[u8]; 7] = [b"AKA", b"BIRTH", b"IMMIGRANT", b"MAIDEN", b"MARRIED", b"PROFESSIONAL", b"OTHER"];
+const NAME_TYPE_WORDS: [&[u8]; 7] = [
+    b"AKA",
+    b"BIRTH",
+    b"IMMIGRANT",
+    b"MAIDEN",
+    b"MARRIED",
+    b"PROFESSIONAL",
+    b"OTHER",
+];
 
 // The entries of a context, in the order of the table.
 fn entries(context: Context) -> &'static [Entry]

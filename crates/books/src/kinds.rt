@@ -33,6 +33,18 @@ pub fn kind_parameter(kind: Kind) -> u16
     match kind {
         Kind::Word(set) | Kind::Words(set) => set,
         Kind::Pointer(typed) => typed,
-        Kind::Nothing | Kind::Text | Kind::Flag | Kind::Integer | Kind::Texts | Kind::Date | Kind::Period | Kind::Exact | Kind::Time | Kind::Age | Kind::Name | Kind::Version | Kind::Anything => 0,
+        Kind::Nothing
+        | Kind::Text
+        | Kind::Flag
+        | Kind::Integer
+        | Kind::Texts
+        | Kind::Date
+        | Kind::Period
+        | Kind::Exact
+        | Kind::Time
+        | Kind::Age
+        | Kind::Name
+        | Kind::Version
+        | Kind::Anything => 0,
     }
 }

@@ -5,8 +5,10 @@ mod home;
 mod kinds;
 mod open;
 mod plain;
+mod pointers;
 
 pub use book::Book;
+pub use book::LentBook;
 pub use home::Home;
 pub use home::HomeBook;
 pub use kinds::kind_number;
@@ -15,3 +17,4 @@ pub use open::Open;
 pub use open::OpenBook;
 pub use plain::Plain;
 pub use plain::PlainBook;
+pub use pointers::pointers_stay_within;

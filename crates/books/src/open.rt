@@ -2,10 +2,10 @@ ghost use mathlib.Core.Path.{_≡_};
 ghost use Rattle.std.specs.declared.option.Option.the-variants.{None};
 ghost use Rattle.model.specs.Books.{Meaning};
 ghost use Rattle.model.specs.Tables.{underscored, open-row, open-layer};
+use super::book::Book;
 use model::Context;
 use model::Kind;
 use model::Row;
-use super::book::Book;
 
 // No book has more types than this.
 const MOST_TYPES: usize = 1000;
@@ -32,7 +32,11 @@ pub impl<B: Book> Book for Open<B> as OpenBook {
             return known;
         }
         let further = self.below.types();
-        if further < MOST_TYPES { further_row(context, tag, further as u16) } else { None }
+        if further < MOST_TYPES {
+            further_row(context, tag, further as u16)
+        } else {
+            None
+        }
     }
 
     fn needs(&self, context: Context) -> usize {
@@ -61,11 +65,19 @@ pub impl<B: Book> Book for Open<B> as OpenBook {
 fn further_row(context: Context, tag: &[u8], further: u16) -> Option<Row>
     ensures { λ r. ⌜ ((m : Meaning) → m .types ≡ further → m .row context (now (tag .entry)) ≡ None → r ≡ open-row m context (now (tag .entry))) ⌝ }
 {
-    let free = Some(Row { typed: further, required: false, many: true });
+    let free = Some(Row {
+        typed: further,
+        required: false,
+        many: true,
+    });
     match context {
         Context::Under(typed) if typed == further => free,
         Context::Under(typed) if typed > further => None,
-        Context::Top | Context::Under(_) => if begins_with_underscore(tag) { free } else { None },
+        Context::Top | Context::Under(_) => if begins_with_underscore(tag) {
+            free
+        } else {
+            None
+        },
     }
 }
 

@@ -1,8 +1,8 @@
 ghost use Rattle.model.specs.Tables.{plain};
+use super::book::Book;
 use model::Context;
 use model::Kind;
 use model::Row;
-use super::book::Book;
 
 // The plain book asks for nothing: every tag has one type, which takes anything, at the top and under itself.
 #[derive(Clone, Copy, PartialEq, Eq, Debug)]
@@ -19,7 +19,11 @@ pub impl Book for Plain as PlainBook {
 
     fn row(&self, context: Context, tag: &[u8]) -> Option<Row> {
         match context {
-            Context::Top | Context::Under(ONLY) => Some(Row { typed: ONLY, required: false, many: true }),
+            Context::Top | Context::Under(ONLY) => Some(Row {
+                typed: ONLY,
+                required: false,
+                many: true,
+            }),
             Context::Under(_) => None,
         }
     }
