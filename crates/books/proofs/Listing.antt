@@ -1,9 +1,9 @@
 -- The entries of a context and the words of a set, looked through one by one. Assumes nothing.
 use mathlib.Core.Path.{_≡_, refl, sym, ap, subst, _∙_}
-use mathlib.Core.Logic.{_⊎_, inl, inr}
-use mathlib.Core.Bool.{Bool, true, false, cond, _&&_, _||_}
+use mathlib.Core.Logic.{inl, inr}
+use mathlib.Core.Bool.{Bool, true, false, _&&_, _||_}
 use mathlib.Core.List.{List, [], _∷_}
-use Prim.Native.Nat.{ℕ, suc, _<_, _≤_}
+use Prim.Native.Nat.{ℕ, suc, _≤_}
 use native.Mathlib.Omega.{arith}
 use denote.Ref.{RefT}
 use lib.Dec.{eqb}
@@ -13,7 +13,7 @@ use Rattle.std.proofs.shelf.Tests.{cases-eq, cond-false, and-parts, or-cases, b
 use Rattle.model.specs.declared.Context.{Context}
 use Rattle.model.specs.declared.Context.the-variants.{Top, Under}
 use Rattle.model.specs.Tables.{TableRow, same-context, home-rows, home-sets}
-use Rattle.books.specs.declared.home.Entry.{Entry}
+use Rattle.books.specs.declared.home.table.Entry.{Entry}
 use Rattle.books.specs.Entries.{rows-of, of-context, tags, Entries, WordsOf}
 
 pub at-context : {c : Context} {es : List Entry} (d : Context) → c ≡ d → rows-of d es ≡ of-context d home-rows → Entries c es

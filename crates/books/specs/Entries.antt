@@ -1,6 +1,6 @@
 -- What the home book's entries say as rows of a table. Assumes nothing.
 use mathlib.Core.Path.{_≡_}
-use mathlib.Core.Bool.{Bool, true, false, cond, _&&_}
+use mathlib.Core.Bool.{cond}
 use mathlib.Core.List.{List, [], _∷_}
 use Prim.Native.Nat.{ℕ}
 use denote.Ref.{RefT}
@@ -8,26 +8,15 @@ use Rattle.model.specs.declared.Context.{Context}
 use Rattle.model.specs.declared.Row.{Row}
 use lib.ListN.{getD}
 use Rattle.model.specs.Tables.{TableRow, same-context, home-rows, home-sets}
-use Rattle.books.specs.declared.home.Times.{Times}
-use Rattle.books.specs.declared.home.Times.the-variants.{AtMostOnce, Once, Often}
-use Rattle.books.specs.declared.home.Entry.{Entry}
-
-abbrev pub once : Times → Bool
-once AtMostOnce = false
-once Once = true
-once Often = false
-
-abbrev pub often : Times → Bool
-often AtMostOnce = false
-often Once = false
-often Often = true
+use Rattle.books.specs.declared.home.table.Entry.{Entry}
+use Rattle.books.specs.Times.{is-required, is-many}
 
 abbrev pub row-of : Entry → Row
-row-of e = record { typed = e .typed; required = once (e .times); many = often (e .times) }
+row-of e = record { typed = e .1; required = is-required (e .2); many = is-many (e .2) }
 
 abbrev pub rows-of : Context → List Entry → List TableRow
 rows-of c [] = []
-rows-of c (e ∷ es) = record { context = c; tag = e .tag .now; row = row-of e } ∷ rows-of c es
+rows-of c (e ∷ es) = record { context = c; tag = e .0 .now; row = row-of e } ∷ rows-of c es
 
 -- the rows of one context
 abbrev pub of-context : Context → List TableRow → List TableRow

@@ -1,2 +1,3 @@
-pub mod Entries
 pub mod Aims
+pub mod Entries
+pub mod Times

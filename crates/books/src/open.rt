@@ -13,7 +13,7 @@ const MOST_TYPES: usize = 1000;
 // The open layer stands over a book. A tag that begins with `_` and that the book below does not know where it stands has
 // one further type, which takes anything, and so has every tag under that type. The book below answers all else, and
 // everything if its types are as many as there may be.
-#[derive(Clone, Copy, PartialEq, Eq, Debug)]
+#[derive(Clone, Copy, Drop, PartialEq, Eq, Debug)]
 pub struct Open<B> {
     pub below: B,
 }

@@ -1,9 +1,7 @@
-use mathlib.Core.Path.{_≡_, refl, sym, ap, _∙_}
-use mathlib.Core.List.{[]}
-use lib.ListN.{length, getD}
+use mathlib.Core.Path.{refl, sym, ap, _∙_}
 use Rattle.std.proofs.shelf.Equals.{matches-decides}
 use Rattle.std.proofs.shelf.Tests.{both-ways}
-use Rattle.model.specs.Tables.{among, home-sets}
+use Rattle.model.specs.Tables.{among}
 use Rattle.books.proofs.Seeking.{word-here, word-past, word-end}
 use Rattle.books.proofs.home.HomeBook.member.Needs as need
 

@@ -7,5 +7,5 @@ use Rattle.books.specs.Entries.{rows-of}
 use Rattle.books.proofs.home.HomeBook.need.Given as given
 
 -- the need that is asked for has `ahead` before it in what is left
-abbrev pub Inv-loop-entry : given.InvT-loop-entry
-Inv-loop-entry l = (c : Context) → nth (needs-in (rows-of c (l .entry-items)) c) (l .j) ≡ nth (needs-in (rows-of c (drop (l .entry-index) (l .entry-items))) c) (l .ahead)
+abbrev pub Inv-loop-typed : given.InvT-loop-typed
+Inv-loop-typed l = (c : Context) → nth (needs-in (rows-of c (l .typed-items)) c) (l .j) ≡ nth (needs-in (rows-of c (drop (l .typed-index) (l .typed-items))) c) (l .ahead)

@@ -7,5 +7,5 @@ use Rattle.books.specs.Entries.{rows-of}
 use Rattle.books.proofs.home.HomeBook.needs.Given as given
 
 -- those counted and those left are all
-abbrev pub Inv-loop-entry : given.InvT-loop-entry
-Inv-loop-entry l = (l .count ≤ l .entry-index) × ((c : Context) → length (needs-in (rows-of c (l .entry-items)) c) ≡ l .count + length (needs-in (rows-of c (drop (l .entry-index) (l .entry-items))) c))
+abbrev pub Inv-loop-times : given.InvT-loop-times
+Inv-loop-times l = (l .count ≤ l .times-index) × ((c : Context) → length (needs-in (rows-of c (l .times-items)) c) ≡ l .count + length (needs-in (rows-of c (drop (l .times-index) (l .times-items))) c))

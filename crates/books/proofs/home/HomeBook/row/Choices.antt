@@ -6,5 +6,5 @@ use Rattle.books.specs.Entries.{rows-of}
 use Rattle.books.proofs.home.HomeBook.row.Given as given
 
 -- what is left gives the answer
-abbrev pub Inv-loop-entry : given.InvT-loop-entry
-Inv-loop-entry l = (c : Context) → row-in (rows-of c (l .entry-items)) c (l .tag) ≡ row-in (rows-of c (drop (l .entry-index) (l .entry-items))) c (l .tag)
+abbrev pub Inv-loop-known : given.InvT-loop-known
+Inv-loop-known l = (c : Context) → row-in (rows-of c (l .known-items)) c (l .tag) ≡ row-in (rows-of c (drop (l .known-index) (l .known-items))) c (l .tag)
