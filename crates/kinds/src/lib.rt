@@ -1,0 +1,3 @@
+// What each kind of payload takes.
+mod plain;
+mod words;
