@@ -1,5 +1,7 @@
 ghost use mathlib.Core.Path.{_≡_};
 ghost use mathlib.Core.Bool.{not};
+ghost use mathlib.Core.List.{map};
+ghost use Rattle.model.specs.Tables.{among};
 ghost use Rattle.model.specs.Kinds.{all-digits, no-tab, slashes};
 ghost use Rattle.model.specs.Grammar.{is-flag, is-integer, is-version, is-person};
 
@@ -63,4 +65,15 @@ pub fn is_person(text: &[u8]) -> bool
     ensures { λ r. ⌜ r ≡ is-person (now (text .entry)) ⌝ }
 {
     !text.is_empty() && !has_tab(text) && matches!(slashes_in(text), 0 | 2)
+}
+
+pub fn is_one_of(word: &[u8], words: &[&[u8]]) -> bool
+    ensures { λ r. ⌜ r ≡ among (map now (now (words .entry))) (now (word .entry)) ⌝ }
+{
+    for w in words {
+        if *w == word {
+            return true;
+        }
+    }
+    false
 }

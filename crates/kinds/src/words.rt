@@ -4,7 +4,7 @@ ghost use Rattle.std.specs.Options.{Cases, mapped};
 ghost use Rattle.std.specs.shelf.Lists.{leading};
 ghost use Rattle.model.specs.Kinds.{cut};
 ghost use Rattle.model.specs.Grammar.{other-than, piece, behind, no-more};
-ghost use Rattle.kinds.specs.Words.{words-of};
+ghost use Rattle.kinds.specs.Words.{words-of, left-of, behind-word};
 
 // Where a byte first stands, or the length where it does not.
 fn place_of(text: &[u8], byte: u8) -> usize
@@ -50,6 +50,14 @@ impl<'a> Words<'a> {
     {
         let (word, rest) = cut_at(self.rest?, b' ');
         Some((word, Words { rest }))
+    }
+
+    // The words behind the first, if that is this one.
+    pub fn strip_first(self, word: &[u8]) -> Option<Words<'a>>
+        ensures { λ r. ⌜ left-of r ≡ behind-word (now (word .entry)) (words-of (self .entry)) ⌝ }
+    {
+        let (first, rest) = self.split_first()?;
+        if first == word { Some(rest) } else { None }
     }
 
     pub fn is_empty(self) -> bool
