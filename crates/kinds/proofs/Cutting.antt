@@ -1,13 +1,16 @@
 -- A text cut at the first of a byte, by its place. Assumes nothing.
 use mathlib.Core.Path.{_≡_, sym, ap, _∙_}
-use mathlib.Core.List.{List, []}
+use mathlib.Core.Bool.{Bool}
+use mathlib.Core.List.{List, [], _∷_}
 use Prim.Native.Nat.{ℕ, _+_, _-_, _<_, _≤_}
 use lib.ListN.{length, take, drop}
 use Rattle.std.specs.shelf.Lists.{leading}
 use Rattle.std.proofs.shelf.Lists.{drop-more, drop-all, take-all, take-rest}
 use Rattle.std.specs.declared.option.Option.{Option}
 use Rattle.std.specs.declared.option.Option.the-variants.{Some, None}
-use Rattle.model.specs.Grammar.{other-than, piece, behind-first, behind}
+use Rattle.model.specs.Kinds.{cut}
+use Rattle.model.specs.Grammar.{other-than, piece, behind-first, behind, pieces}
+use Rattle.model.proofs.Grammars.{cut-step}
 
 module _ (c : ℕ) (t : List ℕ) (e : ℕ) (is : e ≡ leading (other-than c) t) where
   pub before-it : take e t ≡ piece c t
@@ -21,3 +24,16 @@ module _ (c : ℕ) (t : List ℕ) (e : ℕ) (is : e ≡ leading (other-than c) t
 
   pub none-behind : length t ≤ e → None ≡ behind c t
   none-behind h = sym (ap behind-first (drop-all e t h)) ∙ ap (λ n. behind-first (drop n t)) is
+
+-- The pieces of a text, by the first cut
+
+module _ (c : ℕ) (t : List ℕ) where
+  pub cut-more : (rest : List ℕ) → Some rest ≡ behind c t → cut c t ≡ piece c t ∷ cut c rest
+  cut-more rest e = cut-step c t ∙ ap (λ o. piece c t ∷ pieces c o) (sym e)
+
+  pub cut-last : None ≡ behind c t → cut c t ≡ piece c t ∷ []
+  cut-last e = cut-step c t ∙ ap (λ o. piece c t ∷ pieces c o) (sym e)
+
+  -- what f asks of a piece and those behind it is g of those behind it
+  pub over-first : (f g : List (List ℕ) → Bool) (w : List ℕ) → ((v : List ℕ) (vs : List (List ℕ)) → f (w ∷ v ∷ vs) ≡ g (v ∷ vs)) → f (w ∷ cut c t) ≡ g (cut c t)
+  over-first f g w step = ap (λ ws. f (w ∷ ws)) (cut-step c t) ∙ step (piece c t) (pieces c (behind c t)) ∙ sym (ap g (cut-step c t))

@@ -2,6 +2,7 @@
 mod age;
 mod calendar;
 mod date;
+mod list;
 mod plain;
 mod time;
 mod words;
