@@ -1,7 +1,8 @@
 ghost use mathlib.Core.Path.{_≡_};
 ghost use mathlib.Core.List.{[], _∷_};
 ghost use Rattle.model.specs.Kinds.{cut, left-trimmed, right-trimmed, all-spaces};
-ghost use Rattle.model.specs.Grammar.{starts-blank, ends-blank, begins-well, ends-well, are-texts};
+ghost use Rattle.model.specs.Grammar.{starts-blank, ends-blank, begins-well, ends-well, are-texts, later-pass, pieces-pass};
+use books::Book;
 use crate::words::cut_at;
 
 fn left_trimmed(text: &[u8]) -> &[u8]
@@ -94,5 +95,36 @@ pub fn are_texts(text: &[u8]) -> bool
     match rest {
         Some(rest) => begins_well(first) && ends_well(last_piece(rest)),
         None => !starts_blank(first) && !ends_blank(first),
+    }
+}
+
+fn are_later_words<B: Book>(book: &B, set: u16, text: &[u8]) -> bool
+    ensures { λ r. ⌜ r ≡ later-pass (meaning (now (book .entry)) .member set) (cut 44 (now (text .entry))) ⌝ }
+{
+    let mut rest = text;
+    loop {
+        let (piece, behind) = cut_at(rest, b',');
+        let word = left_trimmed(piece);
+        match behind {
+            Some(behind) => {
+                if !book.member(set, right_trimmed(word)) {
+                    return false;
+                }
+                rest = behind;
+            }
+            None => return book.member(set, word),
+        }
+    }
+}
+
+// Words of a set between commas. The spaces beside a comma are not of a word; those before the first word and behind the
+// last are, so that there can be none.
+pub fn are_words<B: Book>(book: &B, set: u16, text: &[u8]) -> bool
+    ensures { λ r. ⌜ r ≡ pieces-pass (meaning (now (book .entry)) .member set) (cut 44 (now (text .entry))) ⌝ }
+{
+    let (first, rest) = cut_at(text, b',');
+    match rest {
+        Some(rest) => book.member(set, right_trimmed(first)) && are_later_words(book, set, rest),
+        None => book.member(set, first),
     }
 }
