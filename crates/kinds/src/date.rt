@@ -6,14 +6,14 @@ ghost use Rattle.model.specs.Kinds.{cut};
 ghost use Rattle.model.specs.Grammar.{is-month, after-epoch, after-year, after-number, after-date-in, after-date, is-date, is-after, is-between, is-period, is-qualified, is-date-value, is-exact};
 ghost use Rattle.kinds.specs.Words.{words-of, left-of};
 use crate::calendar::Calendar;
-use crate::calendar::FrenchR;
-use crate::calendar::FrenchRCalendar;
-use crate::calendar::Gregorian;
-use crate::calendar::GregorianCalendar;
-use crate::calendar::Hebrew;
-use crate::calendar::HebrewCalendar;
-use crate::calendar::Julian;
-use crate::calendar::JulianCalendar;
+use crate::calendar::french_r::FrenchR;
+use crate::calendar::french_r::FrenchRCalendar;
+use crate::calendar::gregorian::Gregorian;
+use crate::calendar::gregorian::GregorianCalendar;
+use crate::calendar::hebrew::Hebrew;
+use crate::calendar::hebrew::HebrewCalendar;
+use crate::calendar::julian::Julian;
+use crate::calendar::julian::JulianCalendar;
 use crate::plain::is_integer;
 use crate::plain::is_one_of;
 use crate::words::Words;
@@ -45,7 +45,11 @@ fn after_year<'a, C: Calendar>(words: Words<'a>) -> Option<Words<'a>>
     ensures { λ r. ⌜ left-of r ≡ after-year reckoning (words-of (words .entry)) ⌝ }
 {
     let (word, rest) = words.split_first()?;
-    if is_integer(word) { Some(after_epoch::<C>(rest)) } else { None }
+    if is_integer(word) {
+        Some(after_epoch::<C>(rest))
+    } else {
+        None
+    }
 }
 
 // Behind a number, which is a day if a month follows it, and else a year.
@@ -140,7 +144,8 @@ fn is_qualified(words: Words<'_>) -> bool
     ensures { λ r. ⌜ r ≡ is-qualified (words-of (words .entry)) ⌝ }
 {
     match words.split_first() {
-        Some((word, rest)) => is_one_of(word, &[b"AFT", b"BEF", b"ABT", b"CAL", b"EST"]) && is_date(rest),
+        Some((word, rest)) => is_one_of(word, &[b"AFT", b"BEF", b"ABT", b"CAL", b"EST"])
+            && is_date(rest),
         None => false,
     }
 }
@@ -157,7 +162,10 @@ pub fn is_date_value(text: &[u8]) -> bool
     ensures { λ r. ⌜ r ≡ is-date-value (cut 32 (now (text .entry))) ⌝ }
 {
     let words = Words::of(text);
-    is_date(words) || is_period_in(words) || is_between(b"BET", b"AND", words) || is_qualified(words)
+    is_date(words)
+        || is_period_in(words)
+        || is_between(b"BET", b"AND", words)
+        || is_qualified(words)
 }
 
 // A day, a Gregorian month and a year.

@@ -8,18 +8,16 @@ use model::Kind;
 pub fn may_be_emptied(kind: Kind) -> bool
     ensures { λ r. ⌜ r ≡ may-be-emptied kind ⌝ }
 {
-    match kind {
-        Kind::Text | Kind::Flag | Kind::Texts | Kind::Date | Kind::Period | Kind::Age | Kind::Anything => true,
-        Kind::Nothing
-        | Kind::Integer
-        | Kind::Word(_)
-        | Kind::Words(_)
-        | Kind::Exact
-        | Kind::Time
-        | Kind::Name
-        | Kind::Version
-        | Kind::Pointer(_) => false,
-    }
+    matches!(
+        kind,
+        Kind::Text
+            | Kind::Flag
+            | Kind::Texts
+            | Kind::Date
+            | Kind::Period
+            | Kind::Age
+            | Kind::Anything
+    )
 }
 
 // Whether a structure of this kind may have no payload.

@@ -2,8 +2,8 @@ ghost use mathlib.Core.Path.{_≡_};
 ghost use mathlib.Core.List.{[], _∷_};
 ghost use Rattle.model.specs.Kinds.{cut, left-trimmed, right-trimmed, all-spaces};
 ghost use Rattle.model.specs.Grammar.{starts-blank, ends-blank, begins-well, ends-well, are-texts, later-pass, pieces-pass};
-use books::Book;
 use crate::words::cut_at;
+use books::Book;
 
 fn left_trimmed(text: &[u8]) -> &[u8]
     ensures { λ r. ⌜ now r ≡ left-trimmed (now (text .entry)) ⌝ }

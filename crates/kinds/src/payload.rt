@@ -4,7 +4,6 @@ ghost use Rattle.model.specs.Datasets.{Payload};
 ghost use Rattle.model.specs.Kinds.{Takes};
 ghost use Rattle.model.specs.Grammar.{takes-line};
 ghost use Rattle.kinds.specs.Contents.{StandsFor};
-use books::Book;
 use crate::age::is_age;
 use crate::date::is_date_value;
 use crate::date::is_exact;
@@ -19,6 +18,7 @@ use crate::plain::is_integer;
 use crate::plain::is_person;
 use crate::plain::is_version;
 use crate::time::is_time;
+use books::Book;
 use model::Kind;
 
 // What a payload holds, as far as kinds ask.

@@ -19,7 +19,11 @@ fn after_pair(most: u8, text: &[u8]) -> Option<&[u8]>
 {
     let (tens, rest) = text.split_first()?;
     let (ones, rest) = rest.split_first()?;
-    if is_pair_within(most, *tens, *ones) { Some(rest) } else { None }
+    if is_pair_within(most, *tens, *ones) {
+        Some(rest)
+    } else {
+        None
+    }
 }
 
 fn after_colon(text: &[u8]) -> Option<&[u8]>
@@ -38,7 +42,11 @@ fn after_hour(text: &[u8]) -> Option<&[u8]>
     let (first, rest) = text.split_first()?;
     let (second, rest) = rest.split_first()?;
     if *second == b':' {
-        if first.is_ascii_digit() { Some(rest) } else { None }
+        if first.is_ascii_digit() {
+            Some(rest)
+        } else {
+            None
+        }
     } else if is_pair_within(23, *first, *second) {
         after_colon(rest)
     } else {
