@@ -9,6 +9,7 @@ use std::io;
 #[derive(Clone, Copy, Debug)]
 pub enum Failure {
     Usage,
+    NoBook,
     Missing,
     Folder,
     Unreadable,
@@ -32,6 +33,9 @@ pub impl fmt::Display for Failure as FailureDisplay {
         match *self {
             Failure::Usage => f.write_str(
                 "intake: these words are not understood; run intake without any to see what it does",
+            ),
+            Failure::NoBook => f.write_str(
+                "intake: there is no such book; name home, plain or open",
             ),
             Failure::Missing => f.write_str(
                 "there is no such file; look at its name and its folder",

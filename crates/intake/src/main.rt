@@ -3,18 +3,21 @@
 mod failure;
 mod messages;
 mod report;
+mod shelf;
 
 use characters::LIMIT;
 use failure::Failure;
 use failure::FailureDisplay;
 use failure::IoFailure;
 use failure::MemoryFailure;
-use model::Fault;
+use shelf::Shelf;
+use shelf::shelf_named;
 use std::env;
 use std::fs;
 
-const USAGE: &str = "usage: intake check FILE
-  check FILE    checks the characters and the lines of a family tree, and reports what it has";
+const USAGE: &str = "usage: intake check [--book home|plain|open] FILE
+  check FILE    checks the characters and the lines of a family tree, and reports what it has
+  --book NAME   the book of rules whose tags are looked up: home, plain, or open, which is home with further tags";
 
 // The bytes of a file, or why there are none.
 fn load(rt: &LibcRuntime, path: &str) -> Result<Vec<u8>, Failure> {
@@ -33,10 +36,13 @@ fn load(rt: &LibcRuntime, path: &str) -> Result<Vec<u8>, Failure> {
     }
 }
 
-fn check(rt: &LibcRuntime, path: &str) -> Result<(), Failure> {
+fn check(rt: &LibcRuntime, shelf: Shelf, path: &str) -> Result<(), Failure> {
     let file = load(rt, path)?;
     match lines::check(&file) {
-        Ok(counts) => report::checked(rt, path, &file, counts),
+        Ok(counts) => {
+            report::checked(rt, path, &file, counts)?;
+            report::known(rt, shelf, &file, counts)
+        }
         Err(fault) => Err(Failure::Refused(fault.fault())),
     }
 }
@@ -47,7 +53,13 @@ fn run(rt: &LibcRuntime, words: &[String]) -> Result<(), Failure> {
         return Ok(());
     }
     if words.len() == 3 && words[1].as_str() == "check" {
-        return check(rt, words[2].as_str());
+        return check(rt, Shelf::Home, words[2].as_str());
+    }
+    if words.len() == 5 && words[1].as_str() == "check" && words[2].as_str() == "--book" {
+        return match shelf_named(words[3].as_str()) {
+            Some(shelf) => check(rt, shelf, words[4].as_str()),
+            None => Err(Failure::NoBook),
+        };
     }
     Err(Failure::Usage)
 }

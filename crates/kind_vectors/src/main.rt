@@ -1,13 +1,13 @@
 // Asks of the payloads that stand in its standard input, a kind and a payload to a line with a tab between, whether the kind
 // takes them, with the sets of the home book. Payloads that are no text of one line have names between angle brackets.
-use std::io;
-use std::io::BufRead;
-use std::io::BufReader;
 use books::Home;
 use books::HomeBook;
 use kinds::Content;
 use kinds::takes;
 use model::Kind;
+use std::io;
+use std::io::BufRead;
+use std::io::BufReader;
 
 fn kind_named(name: &str) -> Option<Kind> {
     match name {
@@ -50,7 +50,11 @@ fn answer(case: &str) -> &'static str {
         return "no case:";
     };
     match kind_named(name) {
-        Some(kind) => if takes(&Home, kind, content(payload)) { "taken" } else { "refused" },
+        Some(kind) => if takes(&Home, kind, content(payload)) {
+            "taken"
+        } else {
+            "refused"
+        },
         None => "no kind:",
     }
 }
