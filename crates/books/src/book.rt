@@ -1,5 +1,4 @@
 ghost use mathlib.Core.Path.{_≡_};
-ghost use Prim.Native.Nat.{ℕ};
 ghost use denote.Ref.{now};
 ghost use Rattle.model.specs.Books.{Meaning, Lawful};
 use model::Context;
@@ -36,4 +35,33 @@ pub trait Book {
     // Whether a word is of a set.
     fn member(&self, set: u16, word: &[u8]) -> bool
         ensures { λ r. ⌜ r ≡ meaning (now (self .entry)) .member set (now (word .entry)) ⌝ };
+}
+
+// A book that is lent is the book itself.
+pub impl<B: Book> Book for &B as LentBook {
+    ghost meaning = { λ r. B·Book .meaning (now r) };
+
+    fn types(&self) -> usize {
+        (**self).types()
+    }
+
+    fn row(&self, context: Context, tag: &[u8]) -> Option<Row> {
+        (**self).row(context, tag)
+    }
+
+    fn needs(&self, context: Context) -> usize {
+        (**self).needs(context)
+    }
+
+    fn need(&self, context: Context, j: usize) -> Option<u16> {
+        (**self).need(context, j)
+    }
+
+    fn kind(&self, typed: u16) -> Kind {
+        (**self).kind(typed)
+    }
+
+    fn member(&self, set: u16, word: &[u8]) -> bool {
+        (**self).member(set, word)
+    }
 }

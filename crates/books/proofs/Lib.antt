@@ -1,0 +1,3 @@
+pub mod Aiming
+pub mod Listing
+pub mod Seeking

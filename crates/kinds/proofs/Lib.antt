@@ -1,0 +1,4 @@
+pub mod Comparing
+pub mod Cutting
+pub mod Looping
+pub mod Stripping
