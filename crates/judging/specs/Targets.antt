@@ -1,0 +1,20 @@
+-- The records that payloads name, by position. Assumes nothing.
+use mathlib.Core.Path.{_≡_}
+use mathlib.Core.List.{List}
+use Prim.Native.Nat.{ℕ, _<_}
+use lib.ListN.{length, getD}
+use Rattle.std.specs.declared.option.Option.{Option}
+use Rattle.std.specs.declared.option.Option.the-variants.{Some}
+use Rattle.std.specs.Options.{Cases}
+use Rattle.model.specs.Datasets.{Entry, pointer}
+use Rattle.model.specs.Edits.{no-entry}
+
+-- entry i points to x, and x is the identifier of entry j
+pub record Names (b : List Entry) (i j : ℕ) (x : List ℕ) : Type 0 where
+  pub points : getD b i no-entry .payload ≡ pointer x
+  pub within : j < length b
+  pub named : getD b j no-entry .identifier ≡ Some x
+
+-- the one that entry i names, if any
+abbrev pub Targets : List Entry → ℕ → Option ℕ → Type 0
+Targets b i o = Cases o ((j : ℕ) (x : List ℕ) → Names b i j x → ⊥) (λ j. (x : List ℕ) × Names b i j x)
