@@ -1,2 +1,3 @@
 pub mod Bits
+pub mod Judgeable
 pub mod Marking

@@ -10,17 +10,12 @@ use Rattle.std.specs.Options.{Cases}
 use Rattle.model.specs.Books.{Meaning}
 use Rattle.model.specs.Datasets.{Entry}
 use Rattle.model.specs.Refusals.{First, known}
-use Rattle.model.specs.Positions.{Levelled, NamedApart, KeepsAt, level-at, row-at}
+use Rattle.model.specs.Positions.{KeepsAt, level-at, row-at}
+use Rattle.judging.specs.Entries.{Judgeable}
 use Rattle.judging.specs.declared.marks.Mark.{Mark}
 
 abbrev pub no-mark : Mark
 no-mark = record { level = 0; row = record { typed = 0; required = false; many = false } }
-
--- entries that can be judged: in every dataset they are so
-pub record Judgeable (b : List Entry) : Type 0 where
-  pub levelled : Levelled b
-  pub apart : NamedApart b
-  pub few : length b ≤ 65535
 
 -- the first n entries of b are marked with their levels and rows
 pub record MarkedTo (m : Meaning) (b : List Entry) (marks : List Mark) (n : ℕ) : Type 0 where

@@ -6,12 +6,13 @@ ghost use lib.ListN.{length, getD};
 ghost use Rattle.model.specs.Datasets.{Entry};
 ghost use Rattle.model.specs.Edits.{no-entry};
 ghost use Rattle.kinds.specs.Contents.{StandsFor};
-ghost use Rattle.judging.specs.Targets.{Targets};
+ghost use Rattle.judging.specs.Entries.{Targets};
 use kinds::Content;
 
-// The entries of a tree without the trailer's, one for each card, wherever their lines come from. What they are is a
-// relation, so that a type that may show none still answers every question. Of a card past the last nothing is said.
+// The entries of a tree without the trailer's, one for each card, wherever their lines come from. Every question is
+// answered, also where there is no such tree: then, and of a card past the last, nothing is said of the answer.
 pub trait Entries {
+    // These are the entries.
     ghost shows: { Self → List Entry → Type 0 };
 
     fn count(&self) -> usize

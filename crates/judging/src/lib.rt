@@ -10,5 +10,9 @@ mod sets;
 
 pub use entries::Entries;
 pub use finding::Finding;
+pub use finding::FindingDebug;
+pub use finding::FindingPartialEq;
 pub use finding::Rule;
+pub use finding::RuleDebug;
+pub use finding::RulePartialEq;
 pub use rules::judge;

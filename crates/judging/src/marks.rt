@@ -6,7 +6,8 @@ ghost use lib.ListN.{length};
 ghost use Rattle.std.specs.declared.option.Option.the-variants.{None};
 ghost use Rattle.model.specs.Datasets.{Entry};
 ghost use Rattle.model.specs.Positions.{Levelled, level-at};
-ghost use Rattle.judging.specs.Marks.{Judgeable, RowsOf, AllSmall};
+ghost use Rattle.judging.specs.Entries.{Judgeable};
+ghost use Rattle.judging.specs.Marks.{RowsOf, AllSmall};
 use crate::entries::Entries;
 use books::Book;
 use model::Context;
@@ -33,20 +34,20 @@ impl Mark {
 
 const DEEPEST: u8 = 63;
 
-// The level of a card. In a tree none is deeper.
+// The level of a card, cut at the deepest that a tree has.
 fn level_of<E: Entries>(entries: &E, i: usize) -> u8
     ensures shallow { λ r. ⌜ r ≤ 63 ⌝ }
-    ensures level { λ r. ⌜ ((b : List Entry) → E·Entries .shows (now (entries .entry)) b → Levelled b → i < length b → r ≡ level-at b i) ⌝ }
+    ensures level { λ r. ⌜ ((b : List Entry) → shows (now (entries .entry)) b → Levelled b → i < length b → r ≡ level-at b i) ⌝ }
 {
     entries.level(i).min(DEEPEST)
 }
 
 // Marks every card, or finds the first whose tag has no row.
 pub fn mark_all<B: Book, E: Entries>(book: &B, entries: &E, marks: &mut [Mark]) -> Option<usize>
-    ensures rows { λ r. ⌜ ((b : List Entry) → E·Entries .shows (now (entries .entry)) b → Judgeable b → length b ≡ length (now (marks .entry)) → RowsOf (B·Book .meaning (now (book .entry))) b (now (marks .exit)) r) ⌝ }
+    ensures rows { λ r. ⌜ ((b : List Entry) → shows (now (entries .entry)) b → Judgeable b → length b ≡ length (now (marks .entry)) → RowsOf (meaning (now (book .entry))) b (now (marks .exit)) r) ⌝ }
     ensures small { λ r. ⌜ (r ≡ None → AllSmall (now (marks .exit))) ⌝ }
 {
-    // of each level that is open, and of the one below
+    // of each level that is open
     let mut contexts = [Context::Top; 65];
     for (i, mark) in marks.iter_mut().enumerate() {
         let level = level_of(entries, i);

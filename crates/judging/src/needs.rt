@@ -18,7 +18,7 @@ use model::Context;
 // The first type that the context needs and that is not in the set of that level.
 fn first_missing<B: Book>(book: &B, context: Context, sets: &Sets, level: usize) -> Option<u16>
     requires { ⌜ level ≤ 64 ⌝ }
-    ensures { λ r. ⌜ ((ts : List (Option ℕ)) → ((t : ℕ) → t < 1024 → Decides (bit (now (sets .entry) .words) level t) (Has ts (Some t))) → LackIn (B·Book .meaning (now (book .entry))) context ts r) ⌝ }
+    ensures { λ r. ⌜ ((ts : List (Option ℕ)) → ((t : ℕ) → t < 1024 → Decides (bit (now (sets .entry) .words) level t) (Has ts (Some t))) → LackIn (meaning (now (book .entry))) context ts r) ⌝ }
 {
     for j in 0..book.needs(context) {
         if let Some(typed) = book.need(context, j) {
@@ -35,8 +35,8 @@ fn first_missing<B: Book>(book: &B, context: Context, sets: &Sets, level: usize)
 fn first_lacking<B: Book>(book: &B, marks: &[Mark], ahead: &mut Sets) -> Option<(usize, u16)>
     requires small { ⌜ AllSmall (now marks) ⌝ }
     requires clear { ⌜ Clear (now ahead .words) ⌝ }
-    ensures lacking { λ r. ⌜ ((b : List Entry) → Marked (B·Book .meaning (now (book .entry))) b (now (marks .entry)) → LackOf (B·Book .meaning (now (book .entry))) b 0 r) ⌝ }
-    ensures top { λ _. ⌜ ((b : List Entry) → Marked (B·Book .meaning (now (book .entry))) b (now (marks .entry)) → Ahead (B·Book .meaning (now (book .entry))) b 1024 0 (bit (now (ahead .exit) .words))) ⌝ }
+    ensures lacking { λ r. ⌜ ((b : List Entry) → Marked (meaning (now (book .entry))) b (now (marks .entry)) → LackOf (meaning (now (book .entry))) b 0 r) ⌝ }
+    ensures top { λ _. ⌜ ((b : List Entry) → Marked (meaning (now (book .entry))) b (now (marks .entry)) → Ahead (meaning (now (book .entry))) b 1024 0 (bit (now (ahead .exit) .words))) ⌝ }
 {
     let mut found = None;
     for i in (0..marks.len()).rev() {
@@ -53,7 +53,7 @@ fn first_lacking<B: Book>(book: &B, marks: &[Mark], ahead: &mut Sets) -> Option<
 // The card that is told for what it lacks, with the type. What is missing at the top comes first, and is told at the header.
 pub fn first_needing<B: Book>(book: &B, marks: &[Mark]) -> Option<(usize, u16)>
     requires { ⌜ AllSmall (now marks) ⌝ }
-    ensures { λ r. ⌜ ((b : List Entry) → Marked (B·Book .meaning (now (book .entry))) b (now (marks .entry)) → NeedsOf (B·Book .meaning (now (book .entry))) b r) ⌝ }
+    ensures { λ r. ⌜ ((b : List Entry) → Marked (meaning (now (book .entry))) b (now (marks .entry)) → NeedsOf (meaning (now (book .entry))) b r) ⌝ }
 {
     let mut ahead = Sets::new();
     let found = first_lacking(book, marks, &mut ahead);

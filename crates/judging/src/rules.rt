@@ -3,7 +3,7 @@ ghost use mathlib.Core.List.{List};
 ghost use lib.ListN.{length};
 ghost use Rattle.model.specs.Datasets.{Entry};
 ghost use Rattle.judging.specs.Findings.{Judged};
-ghost use Rattle.judging.specs.Marks.{Judgeable};
+ghost use Rattle.judging.specs.Entries.{Judgeable};
 use crate::cards::CardRule;
 use crate::cards::first_breaking;
 use crate::entries::Entries;
@@ -20,7 +20,7 @@ const MOST: usize = 65_535;
 
 // Each rule is asked of every card before the next.
 fn judge_with<B: Book, E: Entries>(book: &B, entries: &E, marks: &mut [Mark]) -> Option<Finding>
-    ensures { λ r. ⌜ ((b : List Entry) → E·Entries .shows (now (entries .entry)) b → Judgeable b → length b ≡ length (now (marks .entry)) → Judged (B·Book .meaning (now (book .entry))) b r) ⌝ }
+    ensures { λ r. ⌜ ((b : List Entry) → shows (now (entries .entry)) b → Judgeable b → length b ≡ length (now (marks .entry)) → Judged (meaning (now (book .entry))) b r) ⌝ }
 {
     if let Some(card) = mark_all(book, entries, marks) {
         return Some(Finding {
@@ -63,7 +63,7 @@ fn judge_with<B: Book, E: Entries>(book: &B, entries: &E, marks: &mut [Mark]) ->
 
 // The lowest rule of the book that a card breaks, and the first card that breaks it; none where every card keeps all.
 pub fn judge<B: Book, E: Entries>(book: &B, entries: &E) -> Option<Finding>
-    ensures { λ r. ⌜ ((b : List Entry) → E·Entries .shows (now (entries .entry)) b → Judgeable b → Judged (B·Book .meaning (now (book .entry))) b r) ⌝ }
+    ensures { λ r. ⌜ ((b : List Entry) → shows (now (entries .entry)) b → Judgeable b → Judged (meaning (now (book .entry))) b r) ⌝ }
 {
     let mut marks = [Mark::BLANK; MOST];
     let count = entries.count().min(MOST);

@@ -3,17 +3,20 @@ ghost use Prim.Native.Nat.{_<_, _≤_};
 ghost use Rattle.model.specs.Positions.{Turns};
 ghost use Rattle.judging.specs.Sets.{bit, Clear};
 
+// Sixteen words of 64 bits for each of 65 levels.
+const WORDS: usize = 65 * 16;
+
 // A set of types for each level of structures, and one for what would stand below the deepest. A type is below 1,024.
 #[derive(Drop)]
 pub struct Sets {
-    words: [u64; 1040],
+    words: [u64; WORDS],
 }
 
 impl Sets {
     pub fn new() -> Sets
         ensures { λ r. ⌜ Clear (r .words) ⌝ }
     {
-        Sets { words: [0; 1040] }
+        Sets { words: [0; WORDS] }
     }
 
     // Whether the type is in the set of that level.

@@ -4,7 +4,8 @@ use Prim.Native.Nat.{ℕ, _<_}
 use lib.ListN.{length, getD}
 use Rattle.model.specs.Datasets.{Entry}
 use Rattle.model.specs.Positions.{Contexts}
-use Rattle.judging.specs.Marks.{Judgeable, MarkedTo, Small, no-mark}
+use Rattle.judging.specs.Entries.{Judgeable}
+use Rattle.judging.specs.Marks.{MarkedTo, Small, no-mark}
 use Rattle.judging.proofs.marks.mark_all.Given as given
 
 abbrev pub Inv-loop-i : given.InvT-loop-i
