@@ -5,7 +5,11 @@ use books::kind_number;
 use books::kind_parameter;
 use model::Context;
 use model::Kind;
+use model::KindDebug;
+use model::KindPartialEq;
 use model::Row;
+use model::RowDebug;
+use model::RowPartialEq;
 use std::test::*;
 
 // Where a tag stands, the tag, its type, the number and the parameter of the type's kind, whether it is required, and
@@ -159,7 +163,14 @@ const STRANGE: [&[u8]; 6] = [b"", b"m", b"MF", b"LOCKE", b"other", b"AKA BIRTH"]
 #[test]
 fn every_entry_is_told() -> Result<(), Fail> {
     for Line(context, tag, typed, number, parameter, required, many) in &LINES {
-        check_eq(Home.row(*context, tag), Some(Row { typed: *typed, required: *required, many: *many }))?;
+        check_eq(
+            Home.row(*context, tag),
+            Some(Row {
+                typed: *typed,
+                required: *required,
+                many: *many,
+            }),
+        )?;
         check_eq(kind_number(Home.kind(*typed)), *number)?;
         check_eq(kind_parameter(Home.kind(*typed)), *parameter)?;
     }

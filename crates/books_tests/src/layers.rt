@@ -10,7 +10,11 @@ use books::Plain;
 use books::PlainBook;
 use model::Context;
 use model::Kind;
+use model::KindDebug;
+use model::KindPartialEq;
 use model::Row;
+use model::RowDebug;
+use model::RowPartialEq;
 use std::test::*;
 
 // A tag where it stands, and the type that it has there, if any. Such a type is not required, and many may stand there.
@@ -19,7 +23,11 @@ struct Free(Context, &'static [u8], Option<u16>);
 fn rows_are<B: Book>(book: &B, expected: &[Free]) -> Result<(), Fail> {
     for Free(context, tag, typed) in expected {
         let row = match *typed {
-            Some(typed) => Some(Row { typed, required: false, many: true }),
+            Some(typed) => Some(Row {
+                typed,
+                required: false,
+                many: true,
+            }),
             None => None,
         };
         check_eq(book.row(*context, tag), row)?;
@@ -103,7 +111,9 @@ fn a_layer_stands_over_a_lent_book() -> Result<(), Fail> {
 
 #[test]
 fn a_layer_stands_over_a_layer() -> Result<(), Fail> {
-    let open = Open { below: Open { below: Home } };
+    let open = Open {
+        below: Open { below: Home },
+    };
     types_are(&open, 37, Kind::Anything)?;
     rows_are(&open, &OVER_A_LAYER)?;
     check_eq(open.kind(35), Kind::Anything)
