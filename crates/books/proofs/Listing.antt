@@ -1,4 +1,4 @@
--- The entries of a context and the words of a set, looked through one by one. Assumes nothing.
+-- Which entries a context has, and which words a set has. Assumes nothing.
 use mathlib.Core.Path.{_≡_, refl, sym, ap, subst, _∙_}
 use mathlib.Core.Logic.{inl, inr}
 use mathlib.Core.Bool.{Bool, true, false, _&&_, _||_}
@@ -14,7 +14,9 @@ use Rattle.model.specs.declared.Context.{Context}
 use Rattle.model.specs.declared.Context.the-variants.{Top, Under}
 use Rattle.model.specs.Tables.{TableRow, same-context, home-rows, home-sets}
 use Rattle.books.specs.declared.home.table.Entry.{Entry}
-use Rattle.books.specs.Entries.{rows-of, of-context, tags, Entries, WordsOf}
+use Rattle.books.specs.Entries.{rows-of, of-context, behind, Entries, WordsOf}
+
+-- at one context, type or set the entries or the words are compared by computation
 
 pub at-context : {c : Context} {es : List Entry} (d : Context) → c ≡ d → rows-of d es ≡ of-context d home-rows → Entries c es
 at-context {c} {es} d e h = subst (λ k. Entries k es) (sym e) (record { rows = h })
@@ -22,7 +24,7 @@ at-context {c} {es} d e h = subst (λ k. Entries k es) (sym e) (record { rows = 
 pub at-type : {t : ℕ} {es : List Entry} (n : ℕ) → t ≡ n → rows-of (Under n) es ≡ of-context (Under n) home-rows → Entries (Under t) es
 at-type n e h = at-context (Under n) (ap Under e) h
 
-pub at-set : {s : ℕ} {ws : List (RefT (List ℕ))} (n : ℕ) → s ≡ n → tags ws ≡ getD home-sets n [] → WordsOf s ws
+pub at-set : {s : ℕ} {ws : List (RefT (List ℕ))} (n : ℕ) → s ≡ n → behind ws ≡ getD home-sets n [] → WordsOf s ws
 at-set {s} {ws} n e h = subst (λ k. WordsOf k ws) (sym e) (record { words = h })
 
 -- one of several types that follow one another
@@ -33,7 +35,7 @@ from-type {t} n low h further = elim (cases-eq t n) [
 ]
 
 -- the types that have entries
-abbrev pub parents : List ℕ
+abbrev parents : List ℕ
 parents = 0 ∷ 1 ∷ 2 ∷ 4 ∷ 5 ∷ 6 ∷ 12 ∷ 14 ∷ 15 ∷ 24 ∷ 25 ∷ 28 ∷ 31 ∷ 32 ∷ 33 ∷ 34 ∷ []
 
 abbrev is-parent : List ℕ → Context → Bool

@@ -18,7 +18,7 @@ use Rattle.model.specs.declared.Row.{Row}
 use Rattle.model.specs.Tables.{TableRow, same-context, row-in, needs-in, among, home-rows}
 use Rattle.books.specs.declared.home.table.Entry.{Entry}
 use Rattle.books.specs.Times.{is-required}
-use Rattle.books.specs.Entries.{row-of, rows-of, of-context, tags, Entries}
+use Rattle.books.specs.Entries.{row-of, rows-of, of-context, behind, Entries}
 
 -- Only the rows of a context count there
 
@@ -97,11 +97,11 @@ module _ (ws : List (RefT (List ℕ))) (i : ℕ) (d : RefT (List ℕ)) (lt : i <
   abbrev w : List ℕ
   w = getD ws i d .now
 
-  pub word-here : w ≡ word → among (tags (drop i ws)) word ≡ true
-  word-here same = at-drop-more (λ xs. among (tags xs) word) ws i d lt ∙ or-left (sameBytes w word) (among (tags (drop (i + 1) ws)) word) (same-is w word same)
+  pub word-here : w ≡ word → among (behind (drop i ws)) word ≡ true
+  word-here same = at-drop-more (λ xs. among (behind xs) word) ws i d lt ∙ or-left (sameBytes w word) (among (behind (drop (i + 1) ws)) word) (same-is w word same)
 
-  pub word-past : (w ≡ word → ⊥) → among (tags (drop i ws)) word ≡ among (tags (drop (i + 1) ws)) word
-  word-past other = at-drop-more (λ xs. among (tags xs) word) ws i d lt ∙ ap (λ b. b || among (tags (drop (i + 1) ws)) word) (not-same-is w word other)
+  pub word-past : (w ≡ word → ⊥) → among (behind (drop i ws)) word ≡ among (behind (drop (i + 1) ws)) word
+  word-past other = at-drop-more (λ xs. among (behind xs) word) ws i d lt ∙ ap (λ b. b || among (behind (drop (i + 1) ws)) word) (not-same-is w word other)
 
-pub word-end : (ws : List (RefT (List ℕ))) (i : ℕ) (word : List ℕ) → length ws ≤ i → among (tags (drop i ws)) word ≡ false
-word-end ws i word h = at-drop-all (λ xs. among (tags xs) word) ws i h
+pub word-end : (ws : List (RefT (List ℕ))) (i : ℕ) (word : List ℕ) → length ws ≤ i → among (behind (drop i ws)) word ≡ false
+word-end ws i word h = at-drop-all (λ xs. among (behind xs) word) ws i h

@@ -1,12 +1,12 @@
--- What the home book's entries say as rows of a table. Assumes nothing.
+-- The home book's entries as rows of its table, and the words of its sets. Assumes nothing.
 use mathlib.Core.Path.{_≡_}
 use mathlib.Core.Bool.{cond}
 use mathlib.Core.List.{List, [], _∷_}
 use Prim.Native.Nat.{ℕ}
 use denote.Ref.{RefT}
+use lib.ListN.{getD}
 use Rattle.model.specs.declared.Context.{Context}
 use Rattle.model.specs.declared.Row.{Row}
-use lib.ListN.{getD}
 use Rattle.model.specs.Tables.{TableRow, same-context, home-rows, home-sets}
 use Rattle.books.specs.declared.home.table.Entry.{Entry}
 use Rattle.books.specs.Times.{is-required, is-many}
@@ -23,9 +23,10 @@ abbrev pub of-context : Context → List TableRow → List TableRow
 of-context c [] = []
 of-context c (x ∷ xs) = cond (same-context (x .context) c) (x ∷ of-context c xs) (of-context c xs)
 
-abbrev pub tags : List (RefT (List ℕ)) → List (List ℕ)
-tags [] = []
-tags (w ∷ ws) = w .now ∷ tags ws
+-- what stands behind references
+abbrev pub behind : List (RefT (List ℕ)) → List (List ℕ)
+behind [] = []
+behind (w ∷ ws) = w .now ∷ behind ws
 
 -- the entries are the rows of the context
 pub record Entries (c : Context) (es : List Entry) : Type 0 where
@@ -33,4 +34,4 @@ pub record Entries (c : Context) (es : List Entry) : Type 0 where
 
 -- the words are those of the set
 pub record WordsOf (set : ℕ) (ws : List (RefT (List ℕ))) : Type 0 where
-  pub words : tags ws ≡ getD home-sets set []
+  pub words : behind ws ≡ getD home-sets set []

@@ -2,7 +2,7 @@ ghost use mathlib.Core.Path.{_≡_};
 ghost use Rattle.books.specs.Times.{is-required, is-many};
 use model::Kind;
 
-// How often a structure may stand under one superstructure.
+// How often a tag may stand among what is under one structure, or at the top.
 #[derive(Clone, Copy)]
 pub enum Times {
     AtMostOnce,
@@ -182,7 +182,7 @@ pub const OF_FAMILY_MEMBER: [Entry; 1] = [Entry(b"PHRASE", PHRASE, Times::AtMost
 
 pub const OF_SUBMITTER: [Entry; 1] = [Entry(b"NAME", SUBMITTER_NAME, Times::Once)];
 
-// The kind of each type, by its number.
+// The kind of each type, in the order of their numbers.
 pub const KINDS: [Kind; 35] = [
     Kind::Nothing,
     Kind::Nothing,
