@@ -134,6 +134,9 @@ left-comes file from n next n′ f (p ∷ rest) l c =
 pub left-shows : (file : List ℕ) (from n next n′ : ℕ) (f : Found) (p : Placed) (rest : List Placed) → Left file from (p ∷ rest) → Comes file from n next n′ f → Shows (f .line) (p .line)
 left-shows file from n next n′ f p rest l c = subst (Shows (f .line)) (some-same (c .line) (p .line) (sym (c .spelled) ∙ left-parse file from p rest l)) (c .shows)
 
+pub left-goes : (file : List ℕ) (from n next n′ : ℕ) (f : Found) (p : Placed) (rest : List Placed) → Left file from (p ∷ rest) → Comes file from n next n′ f → Left file next rest
+left-goes file from n next n′ f p rest l c = subst (λ k. Left file k rest) (sym (c .next-at ∙ left-next file from p rest l)) (left-rest file from p rest l)
+
 pub left-stuck : (file : List ℕ) (from : ℕ) (rest : List Placed) → Left file from rest → NoLineAt file from → ⊥
 left-stuck file from [] l (h, q) = omega (arith, left-none file from l)
 left-stuck file from (p ∷ rest) l (h, inl q) = never (p .line) (sym q ∙ left-parse file from p rest l)
@@ -208,3 +211,7 @@ left-here file ps i byte part from l c e is start =
     let whole : part ≡ drop byte file = is ∙ take-rest file byte in
     let left : Left part 0 (c .line ∷ c .more) = subst (λ x. Left x 0 (c .line ∷ c .more)) (sym whole) (left-drop file byte (c .line ∷ c .more) (subst (λ k. Left file k (c .line ∷ c .more)) here (left-at file ps i l c))) in
     subst (λ k. Left part k (c .line ∷ c .more)) (sym (start ∙ ap (λ x. cond (is-marked x) 3 0) (sym is) ∙ cond-false (is-marked part) 3 0 (left-unmarked part (c .line ∷ c .more) left))) left
+
+-- by what the cursor's file is
+pub other-comes : (file other : List ℕ) (from n next n′ : ℕ) (f : Found) → other ≡ file → Comes other from n next n′ f → Comes file from n next n′ f
+other-comes file other from n next n′ f e c = subst (λ x. Comes x from n next n′ f) e c

@@ -3,6 +3,7 @@ ghost use Prim.Native.Nat.{_<_, _≤_, _^_};
 ghost use lib.ListN.{length};
 ghost use Rattle.model.specs.Refusals.{Short};
 ghost use Rattle.drawers.specs.Filling.{BlankFrom, Fills, Puts};
+use crate::looking::LONGEST;
 use crate::looking::is_continuation;
 use lines::Cursor;
 use lines::Found;
@@ -13,9 +14,6 @@ use model::State;
 
 // No drawer takes more cards than this, however many it has.
 pub const MOST: usize = 65535;
-
-// A file that is longer is refused before it is filed.
-const LONGEST: usize = 16777216;
 
 // Makes the cards from `from` on blank, so that they name no line.
 pub fn blank_from(drawer: &mut [Card], from: usize)

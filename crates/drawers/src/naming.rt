@@ -20,7 +20,7 @@ pub enum NameFault {
     Lost(usize),
 }
 
-fn identifier_of(file: &[u8], card: Card) -> Option<&[u8]>
+fn shown_name(file: &[u8], card: Card) -> Option<&[u8]>
     ensures { λ r. ⌜ ShowsName (now (file .entry)) card r ⌝ }
 {
     match line_at(file, card.byte as usize) {
@@ -117,7 +117,7 @@ fn collect<'a>(file: &'a [u8], cards: &[Card], table: &mut [(&'a [u8], usize)]) 
 {
     let mut count = 0;
     for k in 0..cards.len() {
-        count = note(table, count, identifier_of(file, cards[k]), k);
+        count = note(table, count, shown_name(file, cards[k]), k);
     }
     count
 }
