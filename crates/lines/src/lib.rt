@@ -10,6 +10,8 @@ mod steps;
 pub use cursor::Cursor;
 pub use fault::BytesInLine;
 pub use fault::LineFault;
+pub use fault::LineFaultDebug;
+pub use fault::LineFaultPartialEq;
 pub use line::CONC;
 pub use line::CONT;
 pub use line::HEAD;
