@@ -1,0 +1,3 @@
+pub mod Filling
+pub mod Looking
+pub mod Naming
