@@ -6,11 +6,9 @@ use mathlib.Core.List.{List, [], _∷_, _++_, map, append-assoc}
 use Prim.Native.Nat.{ℕ, zero, suc, _+_, _<_, _≤_}
 use native.Mathlib.Omega.{arith}
 use lib.ListN.{length, getD, set, take, length-append, List·getD-append}
-use denote.Ref.{RefT}
-use Rattle.std.specs.Options.{SomeBy, mapped}
+use Rattle.std.specs.Options.{SomeBy}
 use Rattle.std.specs.declared.option.Option.{Option}
 use Rattle.std.specs.declared.option.Option.the-variants.{Some, None}
-use Rattle.std.specs.shelf.Text.{sameBytes}
 use Rattle.std.proofs.shelf.Elements.{all-getD}
 use Rattle.std.proofs.shelf.Lists.{set-getD, take-all}
 use Rattle.std.proofs.shelf.Tests.{cases-lt, cond-false}
@@ -28,7 +26,7 @@ use Rattle.model.proofs.Editing.{marked-more, marked-ahead}
 use Rattle.lines.specs.declared.line.Line.{Line}
 use Rattle.lines.specs.Shown.{value-of}
 use Rattle.drawers.specs.Looking.{LineAt}
-use Rattle.editing.specs.Showing.{Shown, aims, aims-value, emptied-value}
+use Rattle.editing.specs.Showing.{Shown, bytes-in, aims, aims-value, emptied-value}
 
 -- The line at the card's byte
 
@@ -62,7 +60,7 @@ own-line ps b e s = go (s .own) refl
 
 -- what a line that was read says of the entry, and of the payload as filed
 pub record Tells (e : Entry) (filed : Payload) (v : Line) : Type 0 where
-  pub identifier : mapped (λ (p : RefT (List ℕ)). p .now) (v .identifier) ≡ e .identifier
+  pub identifier : bytes-in (v .identifier) ≡ e .identifier
   pub value : value-of (v .payload) ≡ first-value filed
 
 pub tells : (file : List ℕ) (c : Card) (e : Entry) (s : Shown file c e) (o : Option Line) → LineAt file (c .byte) o → SomeBy o (Tells e (s .files .filed))

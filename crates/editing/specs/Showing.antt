@@ -2,6 +2,9 @@
 use mathlib.Core.Bool.{Bool, false}
 use mathlib.Core.List.{List}
 use Prim.Native.Nat.{ℕ, _<_, _≤_}
+use denote.Ref.{RefT}
+use Rattle.std.specs.Options.{mapped}
+use Rattle.std.specs.declared.option.Option.{Option}
 use Rattle.std.specs.shelf.Text.{sameBytes}
 use Rattle.model.specs.declared.Card.{Card}
 use Rattle.model.specs.declared.State.{State}
@@ -19,6 +22,10 @@ pub record Shown (file : List ℕ) (c : Card) (e : Entry) : Type 0 where
   pub placed : List Placed
   pub lined : Lined file placed
   pub files : Files placed c e
+
+-- the bytes of a part of the file
+abbrev pub bytes-in : Option (RefT (List ℕ)) → Option (List ℕ)
+bytes-in o = mapped (λ (p : RefT (List ℕ)). p .now) o
 
 -- a pointer with exactly these bytes
 abbrev pub aims : List ℕ → Payload → Bool

@@ -2,16 +2,11 @@
 ghost use mathlib.Core.Path.{_≡_};
 ghost use Prim.Native.Nat.{_<_, _≤_};
 ghost use lib.ListN.{length};
-ghost use denote.Ref.{RefT};
-ghost use mathlib.Core.List.{List};
-ghost use Prim.Native.Nat.{ℕ};
-ghost use Rattle.std.specs.Options.{mapped};
-ghost use Rattle.model.specs.declared.Edit.the-variants.{Withheld, Deleted as deleted, Cleared as cleared};
 ghost use Rattle.model.specs.Datasets.{Entry, Dataset, entries};
 ghost use Rattle.model.specs.Cards.{Holds};
 ghost use Rattle.model.specs.Removal.{card-count};
 ghost use Rattle.model.specs.Edits.{applied-cards, dropped};
-ghost use Rattle.editing.specs.Showing.{Shown, Inside};
+ghost use Rattle.editing.specs.Showing.{Shown, Inside, bytes-in};
 use crate::gaps::delete;
 use crate::pointers::void_pointers;
 use crate::states::clear;
@@ -20,7 +15,7 @@ use model::Card;
 use model::Edit;
 
 fn identifier_of(file: &[u8], card: Card) -> Option<&[u8]>
-    ensures { λ r. ⌜ ((e : Entry) → Shown (now (file .entry)) card e → mapped (λ (p : RefT (List ℕ)). p .now) r ≡ e .identifier) ⌝ }
+    ensures { λ r. ⌜ ((e : Entry) → Shown (now (file .entry)) card e → bytes-in r ≡ e .identifier) ⌝ }
 {
     match line_at(file, card.byte as usize) {
         Some(line) => line.identifier,
@@ -33,7 +28,7 @@ fn identifier_of(file: &[u8], card: Card) -> Option<&[u8]>
 fn take_out(file: &[u8], cards: &mut [Card], from: usize, to: usize)
     requires ordered { ⌜ from < to ⌝ }
     requires inside { ⌜ to ≤ length (now cards) ⌝ }
-    ensures { λ _. ⌜ ((d : Dataset) → Holds (now (file .entry)) (now (cards .entry)) d → to ≤ card-count d → now (cards .exit) ≡ applied-cards (deleted from to) (entries d) (now (cards .entry))) ⌝ }
+    ensures { λ _. ⌜ ((d : Dataset) → Holds (now (file .entry)) (now (cards .entry)) d → to ≤ card-count d → now (cards .exit) ≡ applied-cards (Edit.Deleted from to) (entries d) (now (cards .entry))) ⌝ }
 {
     if let Some(identifier) = identifier_of(file, cards[from]) {
         void_pointers(file, cards, identifier);
@@ -45,7 +40,7 @@ fn take_out(file: &[u8], cards: &mut [Card], from: usize, to: usize)
 fn empty_out(file: &[u8], cards: &mut [Card], place: usize, to: usize)
     requires ordered { ⌜ place < to ⌝ }
     requires inside { ⌜ to ≤ length (now cards) ⌝ }
-    ensures { λ _. ⌜ ((d : Dataset) → Holds (now (file .entry)) (now (cards .entry)) d → to ≤ card-count d → now (cards .exit) ≡ applied-cards (cleared place to) (entries d) (now (cards .entry))) ⌝ }
+    ensures { λ _. ⌜ ((d : Dataset) → Holds (now (file .entry)) (now (cards .entry)) d → to ≤ card-count d → now (cards .exit) ≡ applied-cards (Edit.Cleared place to) (entries d) (now (cards .entry))) ⌝ }
 {
     clear(file, cards, place);
     delete(cards, place + 1, to);
@@ -55,7 +50,7 @@ fn empty_out(file: &[u8], cards: &mut [Card], place: usize, to: usize)
 pub fn apply(file: &[u8], cards: &mut [Card], edit: Edit) -> usize
     ensures cards { λ _. ⌜ ((d : Dataset) → Holds (now (file .entry)) (now (cards .entry)) d → Inside edit (card-count d) → now (cards .exit) ≡ applied-cards edit (entries d) (now (cards .entry))) ⌝ }
     ensures gone { λ r. ⌜ (Inside edit (length (now (cards .entry))) → r ≡ dropped edit) ⌝ }
-    ensures held { λ r. ⌜ (edit ≡ Withheld → now (cards .exit) ≡ now (cards .entry)) ⌝ }
+    ensures held { λ r. ⌜ (edit ≡ Edit.Withheld → now (cards .exit) ≡ now (cards .entry)) ⌝ }
 {
     match edit {
         Edit::Withheld => 0,

@@ -2,7 +2,6 @@
 ghost use mathlib.Core.Path.{_≡_};
 ghost use mathlib.Core.Bool.{false};
 ghost use Rattle.std.specs.shelf.Text.{sameBytes};
-ghost use Rattle.model.specs.declared.State.the-variants.{Blank as blank-state};
 ghost use Rattle.model.specs.Datasets.{Entry, Dataset, entries};
 ghost use Rattle.model.specs.Cards.{Holds};
 ghost use Rattle.model.specs.Edits.{marked};
@@ -31,7 +30,7 @@ fn names(payload: Payload<'_>, identifier: &[u8]) -> bool
 // Whether a card has a pointer to the record with an identifier. A card that is not as filed has none.
 fn points_to(file: &[u8], card: Card, identifier: &[u8]) -> bool
     ensures shown { λ r. ⌜ ((e : Entry) → Shown (now (file .entry)) card e → r ≡ aims (now (identifier .entry)) (e .payload)) ⌝ }
-    ensures blank { λ r. ⌜ (card .state ≡ blank-state → r ≡ false) ⌝ }
+    ensures blank { λ r. ⌜ (card .state ≡ State.Blank → r ≡ false) ⌝ }
 {
     match card.state {
         State::Filed => match line_at(file, card.byte as usize) {
