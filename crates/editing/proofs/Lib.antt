@@ -1,0 +1,3 @@
+pub mod Descent
+pub mod Holding
+pub mod Reaching

@@ -1,0 +1,15 @@
+use mathlib.Core.Path.{_≡_}
+use mathlib.Core.Bool.{Bool}
+use mathlib.Core.List.{List}
+use Prim.Native.Nat.{ℕ}
+use borrow.Author.Needs.{needs}
+use Rattle.std.specs.Orderings.{Decides}
+use Rattle.std.specs.shelf.Text.{sameBytes}
+use Rattle.std.proofs.shelf.Equals.{matches-decides, sameBytes-decides}
+use Rattle.editing.proofs.pointers.is_same.Needs as need
+
+tested : (xs ys : List ℕ) (r : Bool) → Decides r (xs ≡ ys) → r ≡ sameBytes xs ys
+tested xs ys r h = search (needs, sameBytes-decides)
+
+pub returns : need.returns
+returns c = tested (c .args .identifier .now) (c .args .pointer .now) (c .eq .result) (matches-decides _ _ (c .eq .result) (c .eq .ensures))
