@@ -5,14 +5,14 @@ ghost use Rattle.std.specs.shelf.Text.{sameBytes};
 ghost use Rattle.model.specs.Kinds.{cut};
 ghost use Rattle.model.specs.Grammar.{is-count, after-unit, is-duration, is-bounded, is-age};
 ghost use Rattle.kinds.specs.Words.{words-of};
-use crate::time::after_number;
+use crate::time::after_digits;
 use crate::words::Words;
 
 // A number and the letter of its unit.
 fn is_count(unit: u8, word: &[u8]) -> bool
     ensures { λ r. ⌜ r ≡ is-count unit (now (word .entry)) ⌝ }
 {
-    match after_number(word) {
+    match after_digits(word) {
         Some(rest) => rest == [unit],
         None => false,
     }

@@ -4,7 +4,7 @@ ghost use Rattle.model.specs.Grammar.{takes-nothing, takes-lines, takes-pointer
 ghost use Rattle.model.specs.Removal.{is-pointer-kind};
 use model::Kind;
 
-// Whether a structure of this kind may stand without its payload.
+// Whether the payload of this kind can go from a structure that has to stay.
 pub fn may_be_emptied(kind: Kind) -> bool
     ensures { λ r. ⌜ r ≡ may-be-emptied kind ⌝ }
 {
@@ -20,7 +20,7 @@ pub fn may_be_emptied(kind: Kind) -> bool
     )
 }
 
-// Whether a structure of this kind may have no payload.
+// Whether a structure of this kind may stand without a payload.
 pub fn takes_nothing(kind: Kind) -> bool
     ensures { λ r. ⌜ r ≡ takes-nothing kind ⌝ }
 {

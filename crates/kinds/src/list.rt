@@ -98,6 +98,7 @@ pub fn are_texts(text: &[u8]) -> bool
     }
 }
 
+// The words behind the first comma.
 fn are_later_words<B: Book>(book: &B, set: u16, text: &[u8]) -> bool
     ensures { λ r. ⌜ r ≡ later-pass (meaning (now (book .entry)) .member set) (cut 44 (now (text .entry))) ⌝ }
 {
@@ -117,8 +118,7 @@ fn are_later_words<B: Book>(book: &B, set: u16, text: &[u8]) -> bool
     }
 }
 
-// Words of a set between commas. The spaces beside a comma are not of a word; those before the first word and behind the
-// last are, so that there can be none.
+// Words of a set between commas. Spaces beside a comma are dropped, and those at the very ends count as part of a word.
 pub fn are_words<B: Book>(book: &B, set: u16, text: &[u8]) -> bool
     ensures { λ r. ⌜ r ≡ pieces-pass (meaning (now (book .entry)) .member set) (cut 44 (now (text .entry))) ⌝ }
 {

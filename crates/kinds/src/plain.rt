@@ -30,6 +30,7 @@ pub fn is_integer(text: &[u8]) -> bool
     !text.is_empty() && are_digits(text)
 }
 
+// The version of the format, alone or with the number of a correction.
 pub fn is_version(text: &[u8]) -> bool
     ensures { λ r. ⌜ r ≡ is-version (now (text .entry)) ⌝ }
 {
@@ -67,6 +68,7 @@ pub fn is_person(text: &[u8]) -> bool
     !text.is_empty() && !has_tab(text) && matches!(slashes_in(text), 0 | 2)
 }
 
+// Whether a word is among some.
 pub fn is_one_of(word: &[u8], words: &[&[u8]]) -> bool
     ensures { λ r. ⌜ r ≡ among (map now (now (words .entry))) (now (word .entry)) ⌝ }
 {

@@ -7,13 +7,14 @@ ghost use Rattle.std.specs.shelf.Lists.{leading};
 ghost use Rattle.model.specs.Scan.{read-byte};
 ghost use Rattle.model.specs.Grammar.{pair-within, read-pair, read-hour, read-digits, read-fraction, read-seconds, is-zone, is-time};
 
+// Two digits that count at most so many.
 fn is_pair_within(most: u8, tens: u8, ones: u8) -> bool
     ensures { λ r. ⌜ r ≡ pair-within most tens ones ⌝ }
 {
     tens.is_ascii_digit() && ones.is_ascii_digit() && 10 * (tens - b'0') + (ones - b'0') <= most
 }
 
-// Behind two digits that count at most so many.
+// Behind such two digits.
 fn after_pair(most: u8, text: &[u8]) -> Option<&[u8]>
     ensures { λ r. ⌜ mapped now r ≡ read-pair most (now (text .entry)) ⌝ }
 {
@@ -54,6 +55,7 @@ fn after_hour(text: &[u8]) -> Option<&[u8]>
     }
 }
 
+// How many digits stand in front.
 fn digits_before(text: &[u8]) -> usize
     ensures counts { λ r. ⌜ r ≡ leading asciiDigit (now (text .entry)) ⌝ }
     ensures within { λ r. ⌜ r ≤ length (now (text .entry)) ⌝ }
@@ -66,8 +68,8 @@ fn digits_before(text: &[u8]) -> usize
     text.len()
 }
 
-// Behind a number, as far as its digits go.
-pub fn after_number(text: &[u8]) -> Option<&[u8]>
+// Behind the digits in front, if there is one.
+pub fn after_digits(text: &[u8]) -> Option<&[u8]>
     ensures { λ r. ⌜ mapped now r ≡ read-digits (now (text .entry)) ⌝ }
 {
     match digits_before(text) {
@@ -81,7 +83,7 @@ fn after_fraction(text: &[u8]) -> Option<&[u8]>
     ensures { λ r. ⌜ mapped now r ≡ read-fraction (now (text .entry)) ⌝ }
 {
     match text.split_first() {
-        Some((b'.', rest)) => after_number(rest),
+        Some((b'.', rest)) => after_digits(rest),
         _ => Some(text),
     }
 }

@@ -45,6 +45,7 @@ impl<'a> Words<'a> {
         Words { rest: Some(text) }
     }
 
+    // The first word, and those behind it.
     pub fn split_first(self) -> Option<(&'a [u8], Words<'a>)>
         ensures { λ r. ⌜ Cases r (words-of (self .entry) ≡ []) (λ x. words-of (self .entry) ≡ now (x .0) ∷ words-of (x .1)) ⌝ }
     {

@@ -1,5 +1,5 @@
 use mathlib.Core.Path.{_≡_, sym, ap, _∙_}
-use mathlib.Core.Bool.{Bool, _&&_}
+use mathlib.Core.Bool.{Bool, true, false, _&&_}
 use mathlib.Core.List.{List}
 use Prim.Native.Nat.{ℕ}
 use denote.Ref.{now}
@@ -19,13 +19,13 @@ last : (p : List ℕ → Bool) (t first word : List ℕ) (r : Bool) → first �
 last p t first word r is l e asked = asked ∙ ap p l ∙ sym (later-last p t first is e)
 
 pub returns-then-not-member : need.returns-then-not-member
-returns-then-not-member g c = sym (sym (c .loop-behind .inv) ∙ turn (g .B·Book .meaning (c .args .book .now) .member (c .args .set)) (c .loop-behind .rest .now) (c .cut-at .result .0 .now) (c .left-trimmed-word .result .now) (c .right-trimmed .result .now) (c .in-Some .behind .now) (c .member .result) _ (c .cut-at .ensures .first) (c .left-trimmed-word .ensures) (c .right-trimmed .ensures) (sym (ap (mapped now) (c .in-Some .is)) ∙ c .cut-at .ensures .rest) (c .member .ensures) (c .if-not-member .taken))
+returns-then-not-member g c = sym (sym (c .loop-behind .inv) ∙ turn (g .B·Book .meaning (c .args .book .now) .member (c .args .set)) (c .loop-behind .rest .now) (c .cut-at .result .0 .now) (c .left-trimmed-word .result .now) (c .right-trimmed .result .now) (c .in-Some .behind .now) (c .member .result) false (c .cut-at .ensures .first) (c .left-trimmed-word .ensures) (c .right-trimmed .ensures) (sym (ap (mapped now) (c .in-Some .is)) ∙ c .cut-at .ensures .rest) (c .member .ensures) (c .if-not-member .taken))
 
 pub loop-behind-less : need.loop-behind-less
 loop-behind-less g c = behind-length 44 (c .loop-behind .rest .now) (c .in-Some .behind .now) (sym (c .cut-at .ensures .rest) ∙ ap (mapped now) (c .in-Some .is))
 
 pub loop-behind-again : need.loop-behind-again
-loop-behind-again g c = sym (turn (g .B·Book .meaning (c .args .book .now) .member (c .args .set)) (c .loop-behind .rest .now) (c .cut-at .result .0 .now) (c .left-trimmed-word .result .now) (c .right-trimmed .result .now) (c .in-Some .behind .now) (c .member .result) _ (c .cut-at .ensures .first) (c .left-trimmed-word .ensures) (c .right-trimmed .ensures) (sym (ap (mapped now) (c .in-Some .is)) ∙ c .cut-at .ensures .rest) (c .member .ensures) (c .if-not-member .left)) ∙ c .loop-behind .inv
+loop-behind-again g c = sym (turn (g .B·Book .meaning (c .args .book .now) .member (c .args .set)) (c .loop-behind .rest .now) (c .cut-at .result .0 .now) (c .left-trimmed-word .result .now) (c .right-trimmed .result .now) (c .in-Some .behind .now) (c .member .result) true (c .cut-at .ensures .first) (c .left-trimmed-word .ensures) (c .right-trimmed .ensures) (sym (ap (mapped now) (c .in-Some .is)) ∙ c .cut-at .ensures .rest) (c .member .ensures) (c .if-not-member .left)) ∙ c .loop-behind .inv
 
 pub returns-in-None : need.returns-in-None
 returns-in-None g c = last (g .B·Book .meaning (c .args .book .now) .member (c .args .set)) (c .loop-behind .rest .now) (c .cut-at .result .0 .now) (c .left-trimmed-word .result .now) (c .member-in-None .result) (c .cut-at .ensures .first) (c .left-trimmed-word .ensures) (sym (ap (mapped now) (c .in-None .is)) ∙ c .cut-at .ensures .rest) (c .member-in-None .ensures) ∙ c .loop-behind .inv

@@ -1,5 +1,5 @@
 use mathlib.Core.Path.{_≡_, sym, ap, _∙_}
-use mathlib.Core.Bool.{Bool, cond}
+use mathlib.Core.Bool.{Bool, true, false, cond}
 use mathlib.Core.List.{List, _∷_}
 use Prim.Native.Nat.{ℕ}
 use Rattle.std.specs.Lexical.{Matches}
@@ -13,7 +13,7 @@ stripped : (w v : List ℕ) (ws vs : List (List ℕ)) (r s : Bool) → ws ≡ v 
 stripped w v ws vs r s are m e = sym (ap (behind-word w) are ∙ ap (λ b. cond b (Some vs) None) (sym (compared v w r m) ∙ e))
 
 pub returns-then-eq : need.returns-then-eq
-returns-then-eq c = stripped (c .args .word .now) (c .in-Continue-first .first .now) (words-of (c .args .self)) (words-of (c .in-Continue-first .rest)) (c .eq .result) _ (c .in-Continue-first .ensures tt) (c .eq .ensures) (c .if-eq .taken)
+returns-then-eq c = stripped (c .args .word .now) (c .in-Continue-first .first .now) (words-of (c .args .self)) (words-of (c .in-Continue-first .rest)) (c .eq .result) true (c .in-Continue-first .ensures tt) (c .eq .ensures) (c .if-eq .taken)
 
 pub returns-else-eq : need.returns-else-eq
-returns-else-eq c = stripped (c .args .word .now) (c .in-Continue-first .first .now) (words-of (c .args .self)) (words-of (c .in-Continue-first .rest)) (c .eq .result) _ (c .in-Continue-first .ensures tt) (c .eq .ensures) (c .if-eq .left)
+returns-else-eq c = stripped (c .args .word .now) (c .in-Continue-first .first .now) (words-of (c .args .self)) (words-of (c .in-Continue-first .rest)) (c .eq .result) false (c .in-Continue-first .ensures tt) (c .eq .ensures) (c .if-eq .left)

@@ -11,7 +11,7 @@ use Rattle.std.proofs.shelf.Tests.{cond-true}
 use Rattle.std.specs.declared.option.Option.the-variants.{Some, None}
 use Rattle.model.specs.Grammar.{filled, read-digits}
 use Rattle.model.proofs.Grammars.{decides-filled}
-use Rattle.kinds.proofs.time.after_number.Needs as need
+use Rattle.kinds.proofs.time.after_digits.Needs as need
 
 some : (n : ℕ) (t : List ℕ) → n ≡ leading asciiDigit t → n ≤ length t → 0 < n → Some (take (length t - n) (drop n t)) ≡ read-digits t
 some n t is h k =
