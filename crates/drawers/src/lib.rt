@@ -19,3 +19,4 @@ pub use looking::tag_of;
 pub use naming::NameFault;
 pub use naming::check_names;
 pub use naming::find;
+pub use naming::target_of;
