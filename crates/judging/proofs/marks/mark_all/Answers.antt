@@ -1,16 +1,15 @@
-use mathlib.Core.Path.{_≡_, refl, sym, ap, subst, _∙_}
+use mathlib.Core.Path.{_≡_, refl, sym, _∙_}
 use Prim.Native.Nat.{_<_}
 use native.Mathlib.Omega.{arith}
-use lib.ListN.{length, getD, set, replicate, length-set}
+use lib.ListN.{length, getD, replicate, length-set}
 use Rattle.std.specs.declared.option.Option.the-variants.{Some, None}
-use Rattle.model.specs.declared.Context.the-variants.{Top, Under}
+use Rattle.model.specs.declared.Context.the-variants.{Top}
 use Rattle.model.specs.Refusals.{known}
 use Rattle.model.specs.Positions.{KeepsAt, row-at}
 use Rattle.model.proofs.Options.{never}
-use Rattle.model.proofs.Finding.{first-broken, row-keeps, no-row-breaks}
-use Rattle.model.proofs.Turns.{contexts-start, contexts-row, contexts-more}
-use Rattle.judging.specs.Marks.{no-mark}
-use Rattle.judging.proofs.Marking.{marked-none, marked-more, small-more}
+use Rattle.model.proofs.Finding.{first-broken, no-row-breaks}
+use Rattle.model.proofs.Turns.{contexts-start, contexts-more}
+use Rattle.judging.proofs.Marking.{marked-none, marked-more, marked-known, row-found, small-more}
 use Rattle.judging.proofs.marks.mark_all.Needs as need
 
 pub loop-i-holds : need.loop-i-holds
@@ -30,8 +29,8 @@ returns-in-rest g c = record {
       let l = c .level-of-level .result in
       let h : i < length b = omega arith in
       let inv = c .loop-i .inv .2 b s ok (long ∙ sym (c .loop-i .kept .marks)) in
-      let row : row-at m b i ≡ None = contexts-row m b (ok .levelled) i h l (sym (c .level-of-level .ensures .level b s (ok .levelled) h)) (c .loop-i .contexts) (inv .0) ∙ ap (m .row (getD (c .loop-i .contexts) l Top)) (sym (c .tag .ensures b s h)) ∙ sym (c .row .ensures) ∙ c .in-rest .is in
-      first-broken (KeepsAt m b known) i (length b) h (λ j lt. row-keeps m b known j (getD (c .loop-i .marks) j no-mark .row) (inv .1 .row j lt) tt) (no-row-breaks m b i row);
+      let row : row-at m b i ≡ None = row-found m b (ok .levelled) i h l (c .level-of-level .ensures .level b s (ok .levelled) h) (c .loop-i .contexts) (inv .0) (c .tag .result .now) (c .tag .ensures b s h) None (c .in-rest .ensures tt) in
+      first-broken (KeepsAt m b known) i (length b) h (marked-known m b (c .loop-i .marks) i (inv .1)) (no-row-breaks m b i row);
   small = λ e. never (c .loop-i .i) (sym e);
 }
 
@@ -42,7 +41,8 @@ loop-i-again g c =
     let r = c .in-Some .row in
     let m = g .B·Book .meaning (c .args .book .now) in
     let lawful = g .B·Book·met .lawful (c .args .book .now) in
-    let below = lawful .row-below _ _ r (sym (c .row .ensures) ∙ c .in-Some .is) in
+    let is : m .row (getD (c .loop-i .contexts) l Top) (c .tag .result .now) ≡ Some r = sym (c .in-Some .ensures tt) in
+    let below = lawful .row-below (getD (c .loop-i .contexts) l Top) (c .tag .result .now) r is in
     let few = lawful .few in
     let low = c .level-of-level .ensures .shallow in
     let room = c .loop-i .inv .0 in (
@@ -52,7 +52,7 @@ loop-i-again g c =
           let h : i < length b = omega (arith, length-set (c .loop-i .marks) i (record { level = l; row = r })) in
           let inv = c .loop-i .inv .2 b s ok (long ∙ length-set (c .loop-i .marks) i (record { level = l; row = r })) in
           let at = c .level-of-level .ensures .level b s (ok .levelled) h in
-          let row : row-at m b i ≡ Some r = contexts-row m b (ok .levelled) i h l (sym at) (c .loop-i .contexts) (inv .0) ∙ ap (m .row (getD (c .loop-i .contexts) l Top)) (sym (c .tag .ensures b s h)) ∙ sym (c .row .ensures) ∙ c .in-Some .is in (
+          let row : row-at m b i ≡ Some r = row-found m b (ok .levelled) i h l at (c .loop-i .contexts) (inv .0) (c .tag .result .now) (c .tag .ensures b s h) (Some r) (c .in-Some .ensures tt) in (
             contexts-more m b (ok .levelled) i h l (sym at) (c .loop-i .contexts) (inv .0) r row (omega arith),
             marked-more m b (c .loop-i .marks) i (record { level = l; row = r }) (omega arith) (inv .1) at row,
           ),

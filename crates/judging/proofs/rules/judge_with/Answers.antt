@@ -1,17 +1,9 @@
-use mathlib.Core.List.{List}
-use lib.ListN.{getD}
+use lib.ListN.{length}
 use Rattle.std.specs.declared.option.Option.the-variants.{Some, None}
-use Rattle.model.specs.Books.{Meaning}
-use Rattle.model.specs.Datasets.{Entry}
 use Rattle.model.specs.Refusals.{known, taken, aimed-right, single, needed, filled}
-use Rattle.model.specs.Positions.{AllKeep}
-use Rattle.model.proofs.Finding.{row-keeps, found-known, found-taken, found-aimed, found-single, found-needed, found-filled, found-none, told}
-use Rattle.judging.specs.declared.marks.Mark.{Mark}
-use Rattle.judging.specs.Marks.{Marked, no-mark}
+use Rattle.model.proofs.Finding.{found-known, found-taken, found-aimed, found-single, found-needed, found-filled, found-none, told}
+use Rattle.judging.proofs.Marking.{marked-known}
 use Rattle.judging.proofs.rules.judge_with.Needs as need
-
-all-known : (m : Meaning) (b : List Entry) (marks : List Mark) → Marked m b marks → AllKeep m b known
-all-known m b marks t i h = row-keeps m b known i (getD marks i no-mark .row) (t .all .row i h) tt
 
 pub returns-in-Some : need.returns-in-Some
 returns-in-Some g c b s ok long =
@@ -22,14 +14,14 @@ pub returns-in-Some-first-breaking : need.returns-in-Some-first-breaking
 returns-in-Some-first-breaking g c b s ok long =
     let m = g .B·Book .meaning (c .args .book .now) in
     let t = c .in-rest .ensures tt .rows b s ok long in
-    let k14 = all-known m b (c .mark-all .last .marks) t in
+    let k14 = marked-known m b (c .mark-all .last .marks) (length b) (t .all) in
     told m b taken (c .in-Some-first-breaking .card) None (found-taken m b k14 (c .in-Some-first-breaking .card) (c .in-Some-first-breaking .ensures tt b s t))
 
 pub returns-in-Some-first-breaking-2 : need.returns-in-Some-first-breaking-2
 returns-in-Some-first-breaking-2 g c b s ok long =
     let m = g .B·Book .meaning (c .args .book .now) in
     let t = c .in-rest .ensures tt .rows b s ok long in
-    let k14 = all-known m b (c .mark-all .last .marks) t in
+    let k14 = marked-known m b (c .mark-all .last .marks) (length b) (t .all) in
     let k15 = c .in-rest-first-breaking .ensures tt b s t in
     told m b aimed-right (c .in-Some-first-breaking-2 .card) None (found-aimed m b k14 k15 (c .in-Some-first-breaking-2 .card) (c .in-Some-first-breaking-2 .ensures tt b s t))
 
@@ -37,7 +29,7 @@ pub returns-in-Some-first-repeated : need.returns-in-Some-first-repeated
 returns-in-Some-first-repeated g c b s ok long =
     let m = g .B·Book .meaning (c .args .book .now) in
     let t = c .in-rest .ensures tt .rows b s ok long in
-    let k14 = all-known m b (c .mark-all .last .marks) t in
+    let k14 = marked-known m b (c .mark-all .last .marks) (length b) (t .all) in
     let k15 = c .in-rest-first-breaking .ensures tt b s t in
     let k16 = c .in-rest-first-breaking-2 .ensures tt b s t in
     told m b single (c .in-Some-first-repeated .card) None (found-single m b k14 k15 k16 (c .in-Some-first-repeated .card) (c .in-Some-first-repeated .ensures tt m b t))
@@ -46,7 +38,7 @@ pub returns-in-Some-first-needing : need.returns-in-Some-first-needing
 returns-in-Some-first-needing g c b s ok long =
     let m = g .B·Book .meaning (c .args .book .now) in
     let t = c .in-rest .ensures tt .rows b s ok long in
-    let k14 = all-known m b (c .mark-all .last .marks) t in
+    let k14 = marked-known m b (c .mark-all .last .marks) (length b) (t .all) in
     let k15 = c .in-rest-first-breaking .ensures tt b s t in
     let k16 = c .in-rest-first-breaking-2 .ensures tt b s t in
     let k17 = c .in-rest-first-repeated .ensures tt m b t in
@@ -56,7 +48,7 @@ pub returns-in-Some-first-breaking-3 : need.returns-in-Some-first-breaking-3
 returns-in-Some-first-breaking-3 g c b s ok long =
     let m = g .B·Book .meaning (c .args .book .now) in
     let t = c .in-rest .ensures tt .rows b s ok long in
-    let k14 = all-known m b (c .mark-all .last .marks) t in
+    let k14 = marked-known m b (c .mark-all .last .marks) (length b) (t .all) in
     let k15 = c .in-rest-first-breaking .ensures tt b s t in
     let k16 = c .in-rest-first-breaking-2 .ensures tt b s t in
     let k17 = c .in-rest-first-repeated .ensures tt m b t in
@@ -67,7 +59,7 @@ pub returns : need.returns
 returns g c b s ok long =
     let m = g .B·Book .meaning (c .args .book .now) in
     let t = c .in-rest .ensures tt .rows b s ok long in
-    let k14 = all-known m b (c .mark-all .last .marks) t in
+    let k14 = marked-known m b (c .mark-all .last .marks) (length b) (t .all) in
     let k15 = c .in-rest-first-breaking .ensures tt b s t in
     let k16 = c .in-rest-first-breaking-2 .ensures tt b s t in
     let k17 = c .in-rest-first-repeated .ensures tt m b t in
