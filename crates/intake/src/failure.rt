@@ -2,6 +2,7 @@ use crate::messages::sentence;
 use model::Fault;
 use model::FaultDebug;
 use std::alloc::AllocError;
+use std::alloc::Refused;
 use std::fmt;
 use std::io;
 
@@ -53,7 +54,12 @@ pub impl fmt::Display for Failure as FailureDisplay {
                 let line = fault.line;
                 let byte = fault.byte;
                 let words = sentence(number);
-                if line == 0 {
+                if let Some(typed) = fault.missing {
+                    write!(
+                        f,
+                        "refused {number}, line {line}, byte {byte}, missing type {typed}: {words}"
+                    )
+                } else if line == 0 {
                     write!(f, "refused {number}: {words}")
                 } else {
                     write!(f, "refused {number}, line {line}, byte {byte}: {words}")
@@ -71,6 +77,12 @@ pub impl From<io::Error> for Failure as IoFailure {
 
 pub impl From<AllocError> for Failure as MemoryFailure {
     fn from(_: AllocError) -> Failure {
+        Failure::Memory
+    }
+}
+
+pub impl<T: Drop> From<Refused<T>> for Failure as RefusedFailure {
+    fn from(_: Refused<T>) -> Failure {
         Failure::Memory
     }
 }

@@ -6,18 +6,21 @@ mod report;
 mod shelf;
 
 use characters::LIMIT;
+use drawers::MOST;
 use failure::Failure;
 use failure::FailureDisplay;
 use failure::IoFailure;
 use failure::MemoryFailure;
+use model::Card;
+use model::State;
 use shelf::Shelf;
 use shelf::shelf_named;
 use std::env;
 use std::fs;
 
 const USAGE: &str = "usage: intake check [--book home|plain|open] FILE
-  check FILE    checks the characters and the lines of a family tree, and reports what it has
-  --book NAME   the book of rules whose tags are looked up: home, plain, or open, which is home with further tags";
+  check FILE    reads a family tree against a book of rules, and reports what it has
+  --book NAME   the book: home, plain, which takes any tag, or open, which is home with further tags";
 
 // The bytes of a file, or why there are none.
 fn load(rt: &LibcRuntime, path: &str) -> Result<Vec<u8>, Failure> {
@@ -38,10 +41,24 @@ fn load(rt: &LibcRuntime, path: &str) -> Result<Vec<u8>, Failure> {
 
 fn check(rt: &LibcRuntime, shelf: Shelf, path: &str) -> Result<(), Failure> {
     let file = load(rt, path)?;
-    match lines::check(&file) {
-        Ok(counts) => {
-            report::checked(rt, path, &file, counts)?;
-            report::known(rt, shelf, &file, counts)
+    let counts = match lines::check(&file) {
+        Ok(counts) => counts,
+        Err(fault) => return Err(Failure::Refused(fault.fault())),
+    };
+    let blank = Card {
+        byte: 0,
+        state: State::Blank,
+    };
+    let mut drawer = vec![in rt.alloc(); blank; MOST]?;
+    match shelf.read(&file, &mut drawer) {
+        Ok(count) => {
+            report::file_told(rt, path, &file, counts)?;
+            report::tree_told(
+                rt,
+                shelf,
+                &file,
+                &drawer.as_slice()[0..count.min(drawer.len())],
+            )
         }
         Err(fault) => Err(Failure::Refused(fault.fault())),
     }

@@ -11,6 +11,15 @@ pub fn sentence(number: u8) -> &'static str {
         8 => "the line is more than one level deeper than the one before it",
         9 => "an identifier stands on a line that is not at level 0",
         10 => "a continuation stands in the wrong place, or the tag is CONC",
+        11 => "there is no card for this line",
+        12 => "this identifier stands a second time",
+        13 => "the pointer names no record",
+        14 => "the book does not know this tag here",
+        15 => "the payload is not of its kind",
+        16 => "the pointer names a record of another type",
+        17 => "only one such structure may stand here",
+        18 => "a structure that is needed here is missing",
+        19 => "the structure has neither payload nor substructure",
         _ => "the tree is refused",
     }
 }

@@ -1,15 +1,13 @@
 // The books that a volunteer can name.
-use books::Book;
 use books::Home;
 use books::HomeBook;
 use books::Open;
 use books::OpenBook;
 use books::Plain;
 use books::PlainBook;
-use lines::Cursor;
-use lines::Step;
-use lines::TRLR;
-use model::Context;
+use model::Card;
+use reading::ReadFault;
+use reading::read;
 
 #[derive(Clone, Copy)]
 pub enum Shelf {
@@ -27,30 +25,6 @@ pub fn shelf_named(name: &str) -> Option<Shelf> {
     }
 }
 
-// How many structures stand at the top of a tree, and how many of them have a tag that the book knows there.
-#[derive(Clone, Copy)]
-pub struct Tops {
-    pub all: usize,
-    pub known: usize,
-}
-
-fn count_tops<B: Book>(book: &B, file: &[u8], lines: u32) -> Tops {
-    let mut tops = Tops { all: 0, known: 0 };
-    let mut cursor = Cursor::new(file);
-    for _ in 0..lines {
-        if let Step::Line(found) = cursor.step() {
-            let line = found.line;
-            if line.level == 0 && line.tag != TRLR {
-                tops.all = tops.all.saturating_add(1);
-                if book.row(Context::Top, line.tag).is_some() {
-                    tops.known = tops.known.saturating_add(1);
-                }
-            }
-        }
-    }
-    tops
-}
-
 impl Shelf {
     pub fn name(self) -> &'static str {
         match self {
@@ -60,11 +34,12 @@ impl Shelf {
         }
     }
 
-    pub fn tops(self, file: &[u8], lines: u32) -> Tops {
+    // Reads a tree with this book.
+    pub fn read(self, file: &[u8], drawer: &mut [Card]) -> Result<usize, ReadFault> {
         match self {
-            Shelf::Home => count_tops(&Home, file, lines),
-            Shelf::Plain => count_tops(&Plain, file, lines),
-            Shelf::Open => count_tops(&Open { below: Home }, file, lines),
+            Shelf::Home => read(file, drawer, &Home),
+            Shelf::Plain => read(file, drawer, &Plain),
+            Shelf::Open => read(file, drawer, &Open { below: Home }),
         }
     }
 }

@@ -108,17 +108,17 @@ module _ (file : List ℕ) (ps : List Placed) (rooms : ℕ) (passes : Passes fil
     shows = record {
       many = many;
       each = λ k d h.
-        let low : k < length (others ps) = let e = many in omega arith in
-        let is = card-is k d low in
-        record {
-          placed = ps;
-          lined = passes .lined;
-          place = place-of ps k;
-          within = others-within ps k low;
-          begins = ap (λ (x : Card). x .byte) (sym is);
-          identifier = refl;
-          value = ap (λ (x : Card). Rattle.drawers.specs.Naming.left-by (x .state) (card-line ps k .value)) (sym is);
-        }
+          let low : k < length (others ps) = let e = many in omega arith in
+          let is = card-is k d low in
+          record {
+            placed = ps;
+            lined = passes .lined;
+            place = place-of ps k;
+            within = others-within ps k low;
+            begins = ap (λ (x : Card). x .byte) (sym is);
+            identifier = refl;
+            value = ap (λ (x : Card). Rattle.drawers.specs.Naming.left-by (x .state) (card-line ps k .value)) (sym is);
+          };
     }
 
     -- the place of a card that breaks a rule
@@ -170,12 +170,15 @@ module _ (file : List ℕ) (ps : List Placed) (rooms : ℕ) (passes : Passes fil
         order = index .order;
         each = all-weaker (λ (e : Name). (e .1 < length (others ps)) × (card-line ps (e .1) .identifier ≡ Some (e .0 .now))) (λ (e : Name). (e .1 < length (entries d)) × (getD (entries d) (e .1) no-entry .identifier ≡ Some (e .0 .now))) (λ e q. let low : e .1 < length (entries d) = subst (λ x. e .1 < x) count-is (q .0) in (low, sym (identifier-is (e .1) low) ∙ q .1)) names (index .each);
         all = λ k x h e.
-          let (i, low, is) = index .index .all k x (subst (λ y. k < y) (sym count-is) h) (identifier-is k h ∙ e) in
-          let within : i < length names = let z = length-map names (λ (y : Name). y .1) in omega arith in
-          (i, within, λ q.
-            let (there, called) = all-getD (λ (y : Name). (y .1 < length (others ps)) × (card-line ps (y .1) .identifier ≡ Some (y .0 .now))) names i q within (index .each) in
-            let same : getD names i q .1 ≡ k = sym (getD-map (λ (y : Name). y .1) names i q 0 within) ∙ is in
-            some-same (getD names i q .0 .now) x (sym called ∙ ap (λ j. card-line ps j .identifier) same ∙ identifier-is k h ∙ e));
+            let (i, low, is) = index .index .all k x (subst (λ y. k < y) (sym count-is) h) (identifier-is k h ∙ e) in
+            let within : i < length names = let z = length-map names (λ (y : Name). y .1) in omega arith in (
+              i,
+              within,
+              λ q.
+                  let (there, called) = all-getD (λ (y : Name). (y .1 < length (others ps)) × (card-line ps (y .1) .identifier ≡ Some (y .0 .now))) names i q within (index .each) in
+                  let same : getD names i q .1 ≡ k = sym (getD-map (λ (y : Name). y .1) names i q 0 within) ∙ is in
+                  some-same (getD names i q .0 .now) x (sym called ∙ ap (λ j. card-line ps j .identifier) same ∙ identifier-is k h ∙ e),
+            );
       }
 
       pub entering : Entering file cards names d

@@ -25,15 +25,27 @@ pub impl<'f, 'c, 'n> Entries for Entered<'f, 'c, 'n> as EnteredEntries {
     }
 
     fn level(&self, i: usize) -> u8 {
-        if i < self.cards.len() { level_of(self.file, self.cards[i]) } else { 0 }
+        if i < self.cards.len() {
+            level_of(self.file, self.cards[i])
+        } else {
+            0
+        }
     }
 
     fn tag(&self, i: usize) -> &[u8] {
-        if i < self.cards.len() { tag_of(self.file, self.cards[i]) } else { b"" }
+        if i < self.cards.len() {
+            tag_of(self.file, self.cards[i])
+        } else {
+            b""
+        }
     }
 
     fn content(&self, i: usize) -> Content<'_> {
-        if i < self.cards.len() { content_of(self.file, self.cards[i]) } else { Content::Nothing }
+        if i < self.cards.len() {
+            content_of(self.file, self.cards[i])
+        } else {
+            Content::Nothing
+        }
     }
 
     fn target(&self, i: usize) -> Option<usize> {

@@ -3,10 +3,10 @@ ghost use Rattle.reading.specs.declared.fault.ReadFault.the-variants.{Lines};
 ghost use Rattle.reading.specs.Faults.{read-fault};
 use characters::fault_at;
 use lines::LineFault;
-use model::Fault;
-use model::Place;
 use lines::LineFaultDebug;
 use lines::LineFaultPartialEq;
+use model::Fault;
+use model::Place;
 use model::PlaceDebug;
 use model::PlacePartialEq;
 
@@ -49,7 +49,12 @@ impl ReadFault {
             ReadFault::Untaken(at) => fault_at(15, at),
             ReadFault::Misaimed(at) => fault_at(16, at),
             ReadFault::Second(at) => fault_at(17, at),
-            ReadFault::Missing(at, missing) => Fault { number: 18, line: at.line, byte: at.byte, missing: Some(missing) },
+            ReadFault::Missing(at, missing) => Fault {
+                number: 18,
+                line: at.line,
+                byte: at.byte,
+                missing: Some(missing),
+            },
             ReadFault::Bare(at) => fault_at(19, at),
         }
     }

@@ -3,6 +3,10 @@ ghost use mathlib.Core.Path.{_≡_};
 ghost use Prim.Native.Nat.{_≤_};
 ghost use lib.ListN.{length};
 ghost use Rattle.reading.specs.Read.{Fits, Judges, JudgesNamed, Reads, PlacedAt, TellsNames, fault-by};
+use crate::entered::Entered;
+use crate::entered::EnteredEntries;
+use crate::fault::LinesInReading;
+use crate::fault::ReadFault;
 use books::Book;
 use drawers::MOST;
 use drawers::NameFault;
@@ -15,16 +19,16 @@ use judging::Rule;
 use judging::judge;
 use model::Card;
 use model::Place;
-use crate::entered::Entered;
-use crate::entered::EnteredEntries;
-use crate::fault::LinesInReading;
-use crate::fault::ReadFault;
 
 // Where the line of a card is.
 fn place_of(file: &[u8], cards: &[Card], card: usize) -> Place
     ensures { λ r. ⌜ PlacedAt (now (file .entry)) (now (cards .entry)) card r ⌝ }
 {
-    if card < cards.len() { place_at(file, cards[card].byte as usize) } else { Place { line: 0, byte: 0 } }
+    if card < cards.len() {
+        place_at(file, cards[card].byte as usize)
+    } else {
+        Place { line: 0, byte: 0 }
+    }
 }
 
 fn told(finding: Finding, at: Place) -> ReadFault
@@ -60,7 +64,12 @@ fn judge_named<B: Book>(entered: Entered<'_, '_, '_>, book: &B) -> Result<(), Re
 }
 
 // Whether the cards of a file that keeps the rules of the lines keep those of the identifiers and of the book.
-fn judge_with<'a, B: Book>(file: &'a [u8], cards: &[Card], book: &B, table: &mut [(&'a [u8], usize)]) -> Result<(), ReadFault>
+fn judge_with<'a, B: Book>(
+    file: &'a [u8],
+    cards: &[Card],
+    book: &B,
+    table: &mut [(&'a [u8], usize)],
+) -> Result<(), ReadFault>
     ensures { λ r. ⌜ (length (now (cards .entry)) ≤ length (now (table .entry)) → Judges (meaning (now (book .entry))) (now (file .entry)) (now (cards .entry)) r) ⌝ }
 {
     match check_names(file, cards, table) {
