@@ -124,6 +124,17 @@ held-fits file ps cs d l f is = record {
     last-all : (k : ℕ) → k + 1 ≡ length (entries d) → getD (entries d) k nobody ≡ entry 0 None TRLR none
     last-all k h = ap (λ es. getD es k nobody) (shaped .are) ∙ getD-at (entry 0 None HEAD none ∷ shaped .middle) (entry 0 None TRLR none) [] nobody k (omega (arith, many))
 
+pub ordered-rules : (n : ℕ) (qs : List Placed) → Ordered (lines-of qs) → RulesKept 11 n qs
+ordered-rules n qs o levels h i l = o .levels i (omega (arith, length-map qs (λ q. q .line)))
+ordered-rules n qs o first h i l = o .first i (omega (arith, length-map qs (λ q. q .line)))
+ordered-rules n qs o last h i l = o .last i (omega (arith, length-map qs (λ q. q .line)))
+ordered-rules n qs o steps h i l = o .steps i (omega (arith, length-map qs (λ q. q .line)))
+ordered-rules n qs o named h i l = o .named i (omega (arith, length-map qs (λ q. q .line)))
+ordered-rules n qs o continued h i l = o .continued i (omega (arith, length-map qs (λ q. q .line)))
+ordered-rules n qs o room h i l = absurd (omega arith)
+ordered-rules n qs o apart h i l = absurd (omega arith)
+ordered-rules n qs o aimed h i l = absurd (omega arith)
+
 -- The lines that the cards leave
 
 abbrev pub as-placed : List Line → List Placed
@@ -143,23 +154,7 @@ module _ (file : List ℕ) (ps : List Placed) (p : Passes file ps) (cs : List Ca
       subst Ordered (sym is) (framed-ordered (all-lines mid) (entries-framed mid (shaped .stepping) (shaped .named) (shaped .tagged) own shallow))
 
   pub kept-rules : (n : ℕ) → RulesKept 11 n (as-placed (all-lines es))
-  kept-rules n =
-      let o = subst Ordered (sym (lines-back (all-lines es))) ordered in
-      rules o
-    where
-      long : length (lines-of (as-placed (all-lines es))) ≡ length (as-placed (all-lines es))
-      long = length-map (as-placed (all-lines es)) (λ q. q .line)
-
-      rules : Ordered (lines-of (as-placed (all-lines es))) → RulesKept 11 n (as-placed (all-lines es))
-      rules o levels h i l = o .levels i (omega (arith, long))
-      rules o first h i l = o .first i (omega (arith, long))
-      rules o last h i l = o .last i (omega (arith, long))
-      rules o steps h i l = o .steps i (omega (arith, long))
-      rules o named h i l = o .named i (omega (arith, long))
-      rules o continued h i l = o .continued i (omega (arith, long))
-      rules o room h i l = absurd (omega arith)
-      rules o apart h i l = absurd (omega arith)
-      rules o aimed h i l = absurd (omega arith)
+  kept-rules n = ordered-rules n (as-placed (all-lines es)) (subst Ordered (sym (lines-back (all-lines es))) ordered)
 
   -- one dataset at most has them
   pub same-entries : (d : Dataset) → FilesAll ps cs (entries d) → IsDataset d → es ≡ entries d
@@ -189,3 +184,51 @@ module _ (file : List ℕ) (ps : List Placed) (p : Passes file ps) (cs : List Ca
         lines-are = back ∙ sym same;
         many = files-long ps cs (entries d) files;
       }
+
+-- What the cards show of them
+
+length-continuations : (level : ℕ) (ts : List (List ℕ)) → length (continuations level ts) ≡ length ts
+length-continuations level [] = refl
+length-continuations level (t ∷ ts) = ap suc (length-continuations level ts)
+
+places-line : (before : List Line) (n : ℕ) (es : List Entry) (k : ℕ) (x : Entry) → length before ≡ n → k < length es → at (before ++ all-lines es) (getD (places n es) k 0) ≡ own-line (getD es k x)
+places-line before n [] k x b h = absurd (omega arith)
+places-line before n (e ∷ es) zero x b h = getD-at before (own-line e) (continuations (e .level + 1) (further (e .payload)) ++ all-lines es) (line-of 0 None [] nothing) n b
+places-line before n (e ∷ es) (suc k) x b h =
+    let long : length (before ++ entry-lines e) ≡ n + 1 + length (further (e .payload)) = omega (arith, length-append before (entry-lines e), length-continuations (e .level + 1) (further (e .payload))) in
+    ap (λ ls. at ls (getD (places (n + 1 + length (further (e .payload))) es) k 0)) (sym (append-assoc before (entry-lines e) (all-lines es))) ∙ places-line (before ++ entry-lines e) (n + 1 + length (further (e .payload))) es k x long (omega arith)
+
+value-left : (s : State) (p : Payload) → first-value (after s p) ≡ left-by s (first-value p)
+value-left Filed p = refl
+value-left Voided p = refl
+value-left Emptied p = refl
+value-left Blank p = refl
+
+pub cards-show : (file : List ℕ) (ps : List Placed) (p : Passes file ps) (cs : List Card) (es : List Entry) → Kept file ps p cs es → CardsShow file cs (as-placed (all-lines es))
+cards-show file ps p cs es kept = record {
+  many = long ∙ sym (length-places 0 es) ∙ ap length (sym are);
+  each = λ k d h. subst (λ c. CardShows file c (card-line (as-placed (all-lines es)) k)) (getD-default cs k blank d h) (shows k h);
+}
+  where
+    long : length cs ≡ length es
+    long = files-long ps cs es (kept .files)
+
+    are : others (as-placed (all-lines es)) ≡ places 0 es
+    are = ap (others-from 0) (lines-back (all-lines es)) ∙ others-entries 0 es (kept .own)
+
+    own : (k : ℕ) → k < length cs → card-line (as-placed (all-lines es)) k ≡ own-line (getD es k nobody)
+    own k h = (λ i. at (lines-back (all-lines es) i) (getD (are i) k 0)) ∙ places-line [] 0 es k nobody refl (omega (arith, long))
+
+    shows : (k : ℕ) → k < length cs → CardShows file (card cs k) (card-line (as-placed (all-lines es)) k)
+    shows k h =
+        let f = files-at ps cs es (kept .files) k nobody h in
+        let t = stood ps (card cs k .byte) _ (f .stands) in
+        record {
+          placed = ps;
+          lined = p .lined;
+          place = t .place;
+          within = t .within;
+          begins = t .begins;
+          identifier = ap (λ (l : Line). l .identifier) (own k h) ∙ sym (ap (λ (l : Line). l .identifier) (t .line));
+          value = ap (λ (l : Line). l .value) (own k h) ∙ ap first-value (f .shows) ∙ value-left (card cs k .state) (f .filed) ∙ ap (left-by (card cs k .state)) (sym (ap (λ (l : Line). l .value) (t .line)));
+        }

@@ -3,3 +3,4 @@ pub mod Fitted
 pub mod Groups
 pub mod Keeping
 pub mod Deciding
+pub mod Fronting
