@@ -128,8 +128,16 @@ fn content_in(payload: Payload<'_>, continued: bool) -> Content<'_>
     match payload {
         Payload::Void => Content::Void,
         Payload::Pointer(pointer) => Content::Pointer(pointer),
-        Payload::None => if continued { Content::Lines } else { Content::Nothing },
-        Payload::Text(text) => if continued { Content::Lines } else { Content::Line(text) },
+        Payload::None => if continued {
+            Content::Lines
+        } else {
+            Content::Nothing
+        },
+        Payload::Text(text) => if continued {
+            Content::Lines
+        } else {
+            Content::Line(text)
+        },
     }
 }
 

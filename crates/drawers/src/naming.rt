@@ -91,7 +91,11 @@ fn lesser(least: Option<usize>, repeated: bool, card: usize) -> Option<usize>
     ensures { λ r. ⌜ r ≡ lesser-of least repeated card ⌝ }
 {
     match least {
-        Some(other) => if repeated && card < other { Some(card) } else { Some(other) },
+        Some(other) => if repeated && card < other {
+            Some(card)
+        } else {
+            Some(other)
+        },
         None => if repeated { Some(card) } else { None },
     }
 }

@@ -208,16 +208,19 @@ module _ (file : List ℕ) (ps : List Placed) (p : Passes file ps) where
 
   chain : (c : Card) (cs : List Card) → OnLines ps (c ∷ cs) → ((k : ℕ) → k < length (c ∷ cs) → FitsAt ps (c ∷ cs) k) → Chain (c ∷ cs)
   chain c [] ons fits = fits 0 (omega arith) .followed .trailer (omega arith)
-  chain c (d ∷ cs) ons fits = ((ons .rising 0 (omega arith), fits 0 (omega arith) .followed .step (omega arith)), chain d cs (record {
-    lines = λ k h. ons .lines (suc k) (omega arith);
-    rising = λ k h. subst (λ n. card (d ∷ cs) k .byte < card (c ∷ d ∷ cs) n .byte) (one k) (ons .rising (suc k) (omega arith));
-  }) (λ k h. let f = fits (suc k) (omega arith) in record {
-    allowed = f .allowed;
-    followed = record {
-      step = λ q. subst (λ n. (l m : Line) → LineOn ps (card (d ∷ cs) k .byte) l → LineOn ps (card (c ∷ d ∷ cs) n .byte) m → m .level ≤ l .level + 1) (one k) (f .followed .step (omega arith));
-      trailer = λ q. f .followed .trailer (omega arith);
-    };
-  }))
+  chain c (d ∷ cs) ons fits = (
+    (ons .rising 0 (omega arith), fits 0 (omega arith) .followed .step (omega arith)),
+    chain d cs (record {
+      lines = λ k h. ons .lines (suc k) (omega arith);
+      rising = λ k h. subst (λ n. card (d ∷ cs) k .byte < card (c ∷ d ∷ cs) n .byte) (one k) (ons .rising (suc k) (omega arith));
+    }) (λ k h. let f = fits (suc k) (omega arith) in record {
+      allowed = f .allowed;
+      followed = record {
+        step = λ q. subst (λ n. (l m : Line) → LineOn ps (card (d ∷ cs) k .byte) l → LineOn ps (card (c ∷ d ∷ cs) n .byte) m → m .level ≤ l .level + 1) (one k) (f .followed .step (omega arith));
+        trailer = λ q. f .followed .trailer (omega arith);
+      };
+    }),
+  )
     where
       one : (k : ℕ) → suc k + 1 ≡ suc (k + 1)
       one k = omega arith

@@ -44,11 +44,7 @@ fn held_cards(file: &[u8], drawer: &[Card]) -> Option<usize>
 
 // Whether a drawer holds a dataset of a file, for any cards whatever. Then the front of the table is the index of its
 // identifiers. The table has to be as long as the cards that a drawer may hold.
-pub fn held<'a>(
-    file: &'a [u8],
-    drawer: &[Card],
-    table: &mut [(&'a [u8], usize)],
-) -> Option<Kept>
+pub fn held<'a>(file: &'a [u8], drawer: &[Card], table: &mut [(&'a [u8], usize)]) -> Option<Kept>
     ensures { λ r. ⌜ Tells (now (file .entry)) (now (drawer .entry)) (length (now (table .entry))) r (now (table .exit)) ⌝ }
 {
     match held_cards(file, drawer) {

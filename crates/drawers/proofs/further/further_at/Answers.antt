@@ -22,11 +22,14 @@ returns-then-byte-file c ps e l s =
     absurd (omega arith)
 
 pub loop-found-holds : need.loop-found-holds
-loop-found-holds c = (omega arith, λ ps e l s.
-    let w = whole-of ps (c .args .byte) e s in
-    let left = left-here (c .args .file .now) ps (w .place) (c .args .byte) (c .new-cursor .result .file .now) (c .new-cursor .result .at) l (w .cut) (w .begins) (c .new-cursor .ensures .file) (c .new-cursor .ensures .start .0) in
-    subst (λ f. Trailing f (c .step-own .last .self .at) 0 (c .args .number) e) (sym (c .step-own .ensures .file))
-    (trailing-start (c .new-cursor .result .file .now) (c .new-cursor .result .at) (c .new-cursor .result .lines) (c .step-own .last .self .at) (c .step-own .last .self .lines) (c .args .number) (c .step-own .result) ps (c .args .byte) e w left (c .step-own .ensures .steps)))
+loop-found-holds c = (
+  omega arith,
+  λ ps e l s.
+      let w = whole-of ps (c .args .byte) e s in
+      let left = left-here (c .args .file .now) ps (w .place) (c .args .byte) (c .new-cursor .result .file .now) (c .new-cursor .result .at) l (w .cut) (w .begins) (c .new-cursor .ensures .file) (c .new-cursor .ensures .start .0) in
+      subst (λ f. Trailing f (c .step-own .last .self .at) 0 (c .args .number) e) (sym (c .step-own .ensures .file))
+      (trailing-start (c .new-cursor .result .file .now) (c .new-cursor .result .at) (c .new-cursor .result .lines) (c .step-own .last .self .at) (c .step-own .last .self .lines) (c .args .number) (c .step-own .result) ps (c .args .byte) e w left (c .step-own .ensures .steps)),
+)
 
 pub returns-in-End : need.returns-in-End
 returns-in-End c ps e l s = trailing-end (c .loop-found .cursor .file .now) (c .loop-found .cursor .at) (c .loop-found .passed) (c .args .number) e (c .loop-found .inv .1 ps e l s) (c .in-End .ensures tt .steps .0)
@@ -60,9 +63,12 @@ loop-found-less c =
     omega arith
 
 pub loop-found-again : need.loop-found-again
-loop-found-again c = (let low = c .loop-found .inv .0 in let other = c .if-passed-number .left in omega arith, λ ps e l s.
-    let came = trailing-comes (c .loop-found .cursor .file .now) (c .loop-found .cursor .at) (c .loop-found .cursor .lines) (c .step .last .self .at) _ (c .loop-found .passed) (c .args .number) e (c .in-Line .found) (c .loop-found .inv .1 ps e l s) (c .in-Line .ensures tt .steps) in
-    elim came [
-      | inl on ↦ subst (λ f. Trailing f (c .step .last .self .at) (c .loop-found .passed + 1) (c .args .number) e) (sym (c .in-Line .ensures tt .file)) (on .on (c .if-passed-number .left) (c .loop-found .inv .0))
-      | inr end ↦ absurd (end .other (c .is-continuation .ensures .0 (c .if-not-is-continuation .left)))
-    ])
+loop-found-again c = (
+  let low = c .loop-found .inv .0 in let other = c .if-passed-number .left in omega arith,
+  λ ps e l s.
+      let came = trailing-comes (c .loop-found .cursor .file .now) (c .loop-found .cursor .at) (c .loop-found .cursor .lines) (c .step .last .self .at) _ (c .loop-found .passed) (c .args .number) e (c .in-Line .found) (c .loop-found .inv .1 ps e l s) (c .in-Line .ensures tt .steps) in
+      elim came [
+        | inl on ↦ subst (λ f. Trailing f (c .step .last .self .at) (c .loop-found .passed + 1) (c .args .number) e) (sym (c .in-Line .ensures tt .file)) (on .on (c .if-passed-number .left) (c .loop-found .inv .0))
+        | inr end ↦ absurd (end .other (c .is-continuation .ensures .0 (c .if-not-is-continuation .left)))
+      ],
+)

@@ -33,9 +33,11 @@ loop-k-again c ps p on j h = elim (cases-lt j (c .loop-k .k)) [
 pub returns : need.returns
 returns c ps p on =
     let other = eqb-false (length (c .args .cards .now)) 0 (sym (c .is-empty .ensures) ∙ c .if-is-empty .left) in
-    let some : 0 < length (c .args .cards .now) = omega arith in
-    (λ t. record {
-      some = some;
-      header = λ l ol. c .is-top .ensures ps l (p .lined) (subst (λ (x : Card). LineOn ps (x .byte) l) (sym (card-is (c .args .cards .now) 0 _ some)) ol) .0 (c .if-not-is-top .left);
-      each = λ j h. c .loop-k .inv ps p on j (let end = c .loop-k-test .left in omega arith);
-    }, λ f. refl)
+    let some : 0 < length (c .args .cards .now) = omega arith in (
+      λ t. record {
+        some = some;
+        header = λ l ol. c .is-top .ensures ps l (p .lined) (subst (λ (x : Card). LineOn ps (x .byte) l) (sym (card-is (c .args .cards .now) 0 _ some)) ol) .0 (c .if-not-is-top .left);
+        each = λ j h. c .loop-k .inv ps p on j (let end = c .loop-k-test .left in omega arith);
+      },
+      λ f. refl,
+    )
