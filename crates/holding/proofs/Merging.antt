@@ -32,7 +32,7 @@ byte-past before rest j = ap (λ bs. getD bs (length before + j) 0) (map-append 
 byte-before : (before rest : List Placed) (j : ℕ) → j < length before → byte-at (before ++ rest) j ≡ byte-at before j
 byte-before before rest j h = ap (λ bs. getD bs j 0) (map-append (λ q. q .byte) before rest) ∙ getD-append-left (map (λ q. q .byte) before) (map (λ q. q .byte) rest) 0 j (omega (arith, length-map before (λ q. q .byte)))
 
-later : (from : ℕ) (rest : List Placed) (j : ℕ) → InPlace from rest → j < length rest → from ≤ byte-at rest j
+pub later : (from : ℕ) (rest : List Placed) (j : ℕ) → InPlace from rest → j < length rest → from ≤ byte-at rest j
 later from [] j h l = absurd (omega arith)
 later from (p ∷ rest) zero h l = let z = h .0 in omega arith
 later from (p ∷ rest) (suc j) h l = let z = later (from + length (bytes-of p)) rest j (h .1) (omega arith) in omega arith

@@ -1,2 +1,3 @@
 pub mod Standing
 pub mod Matching
+pub mod Holding
