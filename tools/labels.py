@@ -47,6 +47,9 @@ def main():
         parts = {}
         for s in known:
             parts.setdefault(flat(s), set()).add(s)
+            short = re.sub(r"-in-\d+$", "", s)
+            if short not in known:
+                parts.setdefault(flat(short), set()).add(s)
         def new(word):
             if word in known:
                 return word

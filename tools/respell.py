@@ -52,6 +52,8 @@ def declared(text):
     for name, sign, rest in re.findall(rf"(?m)^\s*{marks}({NAME}) +([:=])(?= )\s*(.*)", body):
         (answers if sign == ":" and rest.startswith("goal.") else found).add(name)
     found |= set(re.findall(rf"(?m)^\s*(?:(?:pub|abbrev) )*(?:record|data) (?:pub )?({NAME})", body))
+    for names in re.findall(rf"(?m)^\s+(?:pub )?((?:{NAME} )+{NAME}) : ", body):
+        found |= set(names.split())
     for names in re.findall(rf"[({{]((?:{NAME} )+): ", body):
         found |= set(names.split())
     found |= set(re.findall(rf"(?:let|;|in) ({NAME}) (?:=|:) ", body))

@@ -1,5 +1,7 @@
 // The checks for a program in another language, so that their speed can be compared with a plain one. An answer is 0 where
 // the file is accepted, and else the number of the refusal, the line and the byte, in this order, in 8, 28 and 28 bits.
+#![tactic(auto)]
+
 use books::Home;
 use model::{Card, Fault, MOST, State};
 use reading::read;

@@ -62,4 +62,6 @@ impl<B: Book> Book for &B {
     fn member(&self, set: u16, word: &[u8]) -> bool {
         (**self).member(set, word)
     }
+
+    ghost lawful = { λ r. B.Book.lawful r.now };
 }

@@ -1,5 +1,5 @@
 ghost use Rattle.model.specs.Tables.{plain};
-ghost use borrow.Author.Rules;
+ghost use Rattle.model.proofs.Lawful.{plain_lawful};
 
 use super::book::Book;
 use model::{Context, Kind, Row};
@@ -13,7 +13,7 @@ const ONLY: u16 = 0;
 impl Book for Plain {
     ghost meaning = { λ _. plain };
 
-    ghost lawful = { Prim.search Needs.needs };
+    ghost lawful = { λ _. plain_lawful };
 
     fn types(&self) -> usize {
         1

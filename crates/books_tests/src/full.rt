@@ -1,5 +1,5 @@
 ghost use Rattle.books_tests.specs.Full.{full};
-ghost use borrow.Author.Rules;
+ghost use Rattle.books_tests.specs.Lawful.{full_lawful};
 
 use books::Book;
 use model::{Context, Kind, Row};
@@ -11,7 +11,7 @@ pub struct Full;
 impl Book for Full {
     ghost meaning = { λ _. full };
 
-    ghost lawful = { Prim.search Needs.needs };
+    ghost lawful = { λ _. full_lawful };
 
     fn types(&self) -> usize {
         1000

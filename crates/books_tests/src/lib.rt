@@ -1,5 +1,7 @@
 // The books asked by example: every entry of the home book and tags that have none, layers over each other, and a layer
 // over a book that has no room for a further type. What is expected is written down from the table of the society.
+#![tactic(auto)]
+
 #[cfg(test)]
 mod full;
 #[cfg(test)]

@@ -1,5 +1,7 @@
 // Carries out the script that stands in its standard input, a line at a time, and prints the answer to each line that asks
 // something. vectors/calls.py says what a script is, and makes this one and its answers.
+#![tactic(auto)]
+
 mod bytes;
 mod command;
 mod desk;

@@ -1,5 +1,7 @@
 // One call of any kind, with the promises over every run of calls in its contract. What a user of the library needs is
 // here by name.
+#![tactic(auto)]
+
 mod answer;
 mod performing;
 mod viewed;

@@ -12,7 +12,7 @@ use reading::read;
 use removing::remove;
 
 fn read_call<'f, B: Book>(book: &B, file: &'f [u8], drawer: &mut [Card]) -> Answer<'f>
-    ensures { DoesQuietly (meaning book.now) file.now drawer.old Call.Read result drawer.new }
+    ensures { DoesQuietly (B.meaning book.now) file.now drawer.old Call.Read result drawer.new }
 {
     match read(file, drawer, book) {
         Ok(count) => Answer::Number(count),
@@ -26,7 +26,7 @@ fn remove_call<'f, B: Book>(
     drawer: &mut [Card],
     card: usize,
 ) -> Answer<'f>
-    ensures { DoesQuietly (meaning book.now) file.now drawer.old (Call.Remove card) result drawer.new }
+    ensures { DoesQuietly (B.meaning book.now) file.now drawer.old (Call.Remove card) result drawer.new }
 {
     match remove(file, drawer, book, card) {
         Ok(gone) => Answer::Number(gone),
@@ -44,7 +44,7 @@ pub fn perform<'f, B: Book>(
     buffer: &mut [u8],
     call: Call,
 ) -> Answer<'f>
-    ensures performs { PerformsEvent (meaning book.now) file.now drawer.old (event call buffer.old result buffer.new) drawer.new }
+    ensures performs { PerformsEvent (B.meaning book.now) file.now drawer.old (event call buffer.old result buffer.new) drawer.new }
     ensures promised { Promised PerformsEvent }
 {
     promises_stand();

@@ -1,4 +1,6 @@
 // The characters of a file: UTF-8 by RFC 3629, and none that the standard bans. This is the first check of every reading.
+#![tactic(auto)]
+
 mod fault;
 mod lead;
 mod mark;

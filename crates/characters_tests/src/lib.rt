@@ -1,4 +1,6 @@
 // Bytes on both sides of each rule of the characters, with the answer that the rules give.
+#![tactic(auto)]
+
 #[cfg(test)]
 mod tests {
     use characters::{ByteFault, LIMIT, MARK, check as examine, without_mark};

@@ -12,21 +12,21 @@ use crate::calendar::julian::Julian;
 use pieces::{Words, is_integer, is_one_of};
 
 fn is_month<C: Calendar>(word: &[u8]) -> bool
-    ensures { result ≡ is_month reckoning word.now }
+    ensures { result ≡ is_month C.reckoning word.now }
 {
     is_one_of(word, C::all_months())
 }
 
 // Whether a word says that a year is before the first, in a calendar that has such years.
 fn is_epoch<C: Calendar>(word: &[u8]) -> bool
-    ensures { result ≡ (reckoning.bce && bytes_eq word.now (codes "BCE")) }
+    ensures { result ≡ (C.reckoning.bce && bytes_eq word.now (codes "BCE")) }
 {
-    C::takes_bce() && word == b"BCE"
+    C::takes_bce() && word == b"BCE".as_slice()
 }
 
 // What is left behind the word for years before the first, if that word stands here and the calendar has such years.
 fn after_epoch<'a, C: Calendar>(words: Words<'a>) -> Words<'a>
-    ensures { words_of result ≡ after_epoch reckoning (words_of words.entry) }
+    ensures { words_of result ≡ after_epoch C.reckoning (words_of words.entry) }
 {
     match words.split_first() {
         Some((word, rest)) if is_epoch::<C>(word) => rest,
@@ -35,7 +35,7 @@ fn after_epoch<'a, C: Calendar>(words: Words<'a>) -> Words<'a>
 }
 
 fn after_year<'a, C: Calendar>(words: Words<'a>) -> Option<Words<'a>>
-    ensures { left_of result ≡ after_year reckoning (words_of words.entry) }
+    ensures { left_of result ≡ after_year C.reckoning (words_of words.entry) }
 {
     let (word, rest) = words.split_first()?;
     if is_integer(word) {
@@ -47,7 +47,7 @@ fn after_year<'a, C: Calendar>(words: Words<'a>) -> Option<Words<'a>>
 
 // Behind a number, which is a day if a month follows it, and else a year.
 fn after_number<'a, C: Calendar>(words: Words<'a>) -> Option<Words<'a>>
-    ensures { left_of result ≡ after_number reckoning (words_of words.entry) }
+    ensures { left_of result ≡ after_number C.reckoning (words_of words.entry) }
 {
     match words.split_first() {
         Some((word, rest)) if is_month::<C>(word) => after_year::<C>(rest),
@@ -58,7 +58,7 @@ fn after_number<'a, C: Calendar>(words: Words<'a>) -> Option<Words<'a>>
 // Behind a date of one calendar, without that calendar's name. A day, a month, a year and the word for years before the
 // first stand in this order. Only the year has to stand there, and a day only before a month.
 pub fn after_date_in<'a, C: Calendar>(words: Words<'a>) -> Option<Words<'a>>
-    ensures { left_of result ≡ after_date_in reckoning (words_of words.entry) }
+    ensures { left_of result ≡ after_date_in C.reckoning (words_of words.entry) }
 {
     let (word, rest) = words.split_first()?;
     if is_month::<C>(word) {
@@ -71,7 +71,7 @@ pub fn after_date_in<'a, C: Calendar>(words: Words<'a>) -> Option<Words<'a>>
 }
 
 fn is_named<C: Calendar>(word: &[u8]) -> bool
-    ensures { result ≡ bytes_eq word.now reckoning.name }
+    ensures { result ≡ bytes_eq word.now C.reckoning.name }
 {
     word == C::full_name()
 }

@@ -1,4 +1,6 @@
 // Which texts are dates, in any of the four calendars, and which are periods.
+#![tactic(auto)]
+
 mod calendar;
 mod date;
 

@@ -1,4 +1,6 @@
 // What a removal does to the cards of a drawer: the edit that it is, and that edit done.
+#![tactic(auto)]
+
 mod applying;
 mod fates;
 mod gaps;

@@ -47,7 +47,7 @@ pub fn count_typed<B: Book, E: Entries>(
     siblings: Siblings,
     typed: u16,
 ) -> usize
-    ensures { (b : List Entry) → shows entries.now b → count ≡ length b → result ≡ how_many (Some typed) (types_in (meaning book.now) b siblings) }
+    ensures { (b : List Entry) → shows entries.now b → count ≡ length b → result ≡ how_many (Some typed) (types_in (B.meaning book.now) b siblings) }
 {
     let mut found = 0;
     for at in siblings.first..count {

@@ -1,4 +1,6 @@
 // A drawer is filled from a file.
+#![tactic(auto)]
+
 ghost use Rattle.std.specs.Prelude.{◌^◌, ◌<◌, ◌≤◌, length};
 ghost use Rattle.model.specs.Refusals.{Short};
 ghost use Rattle.filling.specs.Filling.{BlankFrom, Fills, Puts};

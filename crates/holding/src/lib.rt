@@ -1,4 +1,6 @@
 // Whether a drawer holds a dataset of a file, whatever its cards are.
+#![tactic(auto)]
+
 mod fitting;
 mod front;
 mod standing;

@@ -1,5 +1,7 @@
 // The program of the volunteers: it reads a family tree and says what it finds. Everything that matters is in the library
 // crates; here are the arguments, the files and the words.
+#![tactic(auto)]
+
 mod failure;
 mod messages;
 mod report;

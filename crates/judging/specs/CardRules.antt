@@ -2,7 +2,7 @@
 use Rattle.std.specs.Prelude.{ℕ, Bool, List, Decides}
 use Rattle.model.specs.Books.{Meaning}
 use Rattle.model.specs.Datasets.{Entry}
-use Rattle.model.specs.Refusals.{BookRule, taken, aimed-right, filled}
+use Rattle.model.specs.Refusals.{BookRule, taken, aimed_right, filled}
 use Rattle.model.specs.Positions.{KeepsAt}
 use Rattle.judging.specs.Marks.{Marked}
 use Rattle.judging.specs.declared.marks.Mark.{Mark}
@@ -11,7 +11,7 @@ use Rattle.judging.specs.declared.cards.CardRule.TheVariants.{Taken, Aimed, Fill
 
 abbrev pub book_rule : CardRule → BookRule
 book_rule Taken = taken
-book_rule Aimed = aimed-right
+book_rule Aimed = aimed_right
 book_rule Filled = filled
 
 -- r says whether entry i keeps the rule, of entries that are shown and marked

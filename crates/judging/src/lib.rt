@@ -1,4 +1,6 @@
 // The rules of a book over the cards of a tree: the first card that breaks the lowest rule that is broken.
+#![tactic(auto)]
+
 mod cards;
 mod entries;
 mod finding;

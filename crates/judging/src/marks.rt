@@ -40,7 +40,7 @@ fn level_of<E: Entries>(entries: &E, i: usize) -> u8
 
 // Marks every card, or finds the first whose tag has no row.
 pub fn mark_all<B: Book, E: Entries>(book: &B, entries: &E, marks: &mut [Mark]) -> Option<usize>
-    ensures rows { (b : List Entry) → shows entries.now b → Judgeable b → length b ≡ length marks.old → RowsOf (meaning book.now) b marks.new result }
+    ensures rows { (b : List Entry) → shows entries.now b → Judgeable b → length b ≡ length marks.old → RowsOf (B.meaning book.now) b marks.new result }
     ensures small { result ≡ None → AllSmall marks.new }
 {
     // of each level that is open

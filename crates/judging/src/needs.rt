@@ -14,7 +14,7 @@ use model::Context;
 // The first type that the context needs and that is not in the set of that level.
 fn first_missing<B: Book>(book: &B, context: Context, sets: &Sets, level: usize) -> Option<u16>
     requires { level ≤ 64 }
-    ensures { (ts : List (Option ℕ)) → ((t : ℕ) → t < 1024 → Decides (bit sets.now.words level t) (Has ts (Some t))) → LackIn (meaning book.now) context ts result }
+    ensures { (ts : List (Option ℕ)) → ((t : ℕ) → t < 1024 → Decides (bit sets.now.words level t) (Has ts (Some t))) → LackIn (B.meaning book.now) context ts result }
 {
     for j in 0..book.needs(context) {
         if let Some(typed) = book.need(context, j) {
@@ -31,8 +31,8 @@ fn first_missing<B: Book>(book: &B, context: Context, sets: &Sets, level: usize)
 fn first_lacking<B: Book>(book: &B, marks: &[Mark], ahead: &mut Sets) -> Option<(usize, u16)>
     requires small { AllSmall marks.now }
     requires clear { Clear ahead.old.words }
-    ensures lacking { (b : List Entry) → Marked (meaning book.now) b marks.now → LackOf (meaning book.now) b 0 result }
-    ensures top { (b : List Entry) → Marked (meaning book.now) b marks.now → Ahead (meaning book.now) b 1024 0 (bit ahead.new.words) }
+    ensures lacking { (b : List Entry) → Marked (B.meaning book.now) b marks.now → LackOf (B.meaning book.now) b 0 result }
+    ensures top { (b : List Entry) → Marked (B.meaning book.now) b marks.now → Ahead (B.meaning book.now) b 1024 0 (bit ahead.new.words) }
 {
     let mut found = None;
     for i in (0..marks.len()).rev() {
@@ -49,7 +49,7 @@ fn first_lacking<B: Book>(book: &B, marks: &[Mark], ahead: &mut Sets) -> Option<
 // The card that is told for what it lacks, with the type. What is missing at the top comes first, and is told at the header.
 pub fn first_needing<B: Book>(book: &B, marks: &[Mark]) -> Option<(usize, u16)>
     requires { AllSmall marks.now }
-    ensures { (b : List Entry) → Marked (meaning book.now) b marks.now → NeedsOf (meaning book.now) b result }
+    ensures { (b : List Entry) → Marked (B.meaning book.now) b marks.now → NeedsOf (B.meaning book.now) b result }
 {
     let mut ahead = Sets::new();
     let found = first_lacking(book, marks, &mut ahead);

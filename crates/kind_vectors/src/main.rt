@@ -1,5 +1,7 @@
 // Asks of the payloads that stand in its standard input, a kind and a payload to a line with a tab between, whether the kind
 // takes them, with the sets of the home book. Payloads that are no text of one line have names between angle brackets.
+#![tactic(auto)]
+
 use books::Home;
 use kinds::{Content, takes};
 use model::Kind;

@@ -12,7 +12,7 @@ fn is_count(unit: u8, word: &[u8]) -> bool
     ensures { result ≡ is_count unit word.now }
 {
     match after_digits(word) {
-        Some(rest) => rest == [unit],
+        Some(rest) => rest == [unit].as_slice(),
         None => false,
     }
 }
@@ -42,7 +42,7 @@ fn is_duration(words: Words<'_>) -> bool
 fn is_bound(word: &[u8]) -> bool
     ensures { result ≡ (bytes_eq word.now (codes "<") || bytes_eq word.now (codes ">")) }
 {
-    word == b"<" || word == b">"
+    word == b"<".as_slice() || word == b">".as_slice()
 }
 
 fn is_bounded(words: Words<'_>) -> bool

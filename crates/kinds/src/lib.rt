@@ -1,4 +1,6 @@
 // What each kind of payload takes. Times and ages are read here; dates, lists and plain texts in crates of their own.
+#![tactic(auto)]
+
 mod age;
 mod kind;
 mod payload;

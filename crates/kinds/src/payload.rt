@@ -28,7 +28,7 @@ pub enum Content<'a> {
 }
 
 fn takes_line<B: Book>(book: &B, kind: Kind, text: &[u8]) -> bool
-    ensures { result ≡ takes_line (meaning book.now) kind text.now }
+    ensures { result ≡ takes_line (B.meaning book.now) kind text.now }
 {
     match kind {
         Kind::Nothing | Kind::Pointer(_) => false,
@@ -50,7 +50,7 @@ fn takes_line<B: Book>(book: &B, kind: Kind, text: &[u8]) -> bool
 
 // Whether a kind takes a payload.
 pub fn takes<B: Book>(book: &B, kind: Kind, content: Content<'_>) -> bool
-    ensures { (payload : Payload) → StandsFor content.entry payload → Decides result (Takes (meaning book.now) kind payload) }
+    ensures { (payload : Payload) → StandsFor content.entry payload → Decides result (Takes (B.meaning book.now) kind payload) }
 {
     match content {
         Content::Nothing => takes_nothing(kind),

@@ -100,7 +100,7 @@ fn after_seconds(text: &[u8]) -> Option<&[u8]>
 fn is_zone(text: &[u8]) -> bool
     ensures { result ≡ is_zone text.now }
 {
-    text.is_empty() || text == b"Z"
+    text.is_empty() || text == b"Z".as_slice()
 }
 
 // Hours and minutes, perhaps seconds and their fraction, perhaps a zone.

@@ -1,5 +1,7 @@
 // Checks the files that stand in its standard input, one to a line, and prints the answer for each. A file is written with
 // its printable bytes as they are, a backslash as \\ and any other byte as \x and two hexadecimal digits.
+#![tactic(auto)]
+
 ghost use Rattle.std.specs.Prelude.{◌≤◌};
 
 use lines::LineFault;

@@ -1,4 +1,6 @@
 // The lines of a file: what one line says, a cursor over all of them, and the rules that they keep whatever the book is.
+#![tactic(auto)]
+
 mod cursor;
 mod fault;
 mod line;

@@ -1,4 +1,6 @@
 // What the line that a card stands for shows.
+#![tactic(auto)]
+
 mod further;
 mod shown;
 

@@ -14,7 +14,7 @@ use Rattle.model.specs.Books.{Meaning}
 use Rattle.model.specs.Files.{Placed, all_bytes, Lined, Passes}
 use Rattle.model.specs.Rules.{Situation, situations, Keeps18, types_of, top_types}
 use Rattle.model.specs.declared.Context.TheVariants.{Top}
-use Rattle.model.specs.Refusals.{fault, First, BannedAt, Unlined, lines_of, others, byte_at, Breaks, BreaksBook, BreaksTop, BreaksNeeds, LineRule, levels, first, last, steps, named, continued, room, apart, aimed, line_rule_number, LineKeeps, LinesKeep, LineRefusal, BookRule, known, taken, aimed-right, single, needed, filled, book_rule_number, BookKeeps, TopKeeps, BookTells, BookRefusal, Refuses, too_long, malformed, forbidden, unlined, lined, booked, line_at}
+use Rattle.model.specs.Refusals.{fault, First, BannedAt, Unlined, lines_of, others, byte_at, Breaks, BreaksBook, BreaksTop, BreaksNeeds, LineRule, levels, first, last, steps, named, continued, room, apart, aimed, line_rule_number, LineKeeps, LinesKeep, LineRefusal, BookRule, known, taken, aimed_right, single, needed, filled, book_rule_number, BookKeeps, TopKeeps, BookTells, BookRefusal, Refuses, too_long, malformed, forbidden, unlined, lined, booked, line_at}
 use Rattle.model.specs.declared.Fault.{Fault}
 use Rattle.model.proofs.Parts.{part_once}
 use Rattle.model.proofs.Lining.{lined_once}
@@ -98,13 +98,13 @@ line_refusal_once n ps f g x y = breaks_once n ps x.rule y.rule f g (line_rule_o
 -- The book
 
 book_rule_at : ℕ → BookRule
-book_rule_at n = cond (eqb n 14) known (cond (eqb n 15) taken (cond (eqb n 16) aimed-right (cond (eqb n 17) single (cond (eqb n 18) needed filled))))
+book_rule_at n = cond (eqb n 14) known (cond (eqb n 15) taken (cond (eqb n 16) aimed_right (cond (eqb n 17) single (cond (eqb n 18) needed filled))))
 
 book_rule_read : (r : BookRule) → book_rule_at (book_rule_number r) ≡ r
 unfolding book_rule_at
 book_rule_read known = refl
 book_rule_read taken = refl
-book_rule_read aimed-right = refl
+book_rule_read aimed_right = refl
 book_rule_read single = refl
 book_rule_read needed = refl
 book_rule_read filled = refl
@@ -118,7 +118,7 @@ needs_broken m ps ss f b h = b.first.breaks (h b.need)
 tells_broken : (m : Meaning) (ps : List Placed) (d : Dataset) (r : BookRule) (f : Fault) → BookTells m ps d r f → TopKeeps m d r × AllByRecursion (BookKeeps m d r) (situations m d) → ⊥
 tells_broken m ps d known f t k = one_kept 14 ps (situations m d) _ f t k.1
 tells_broken m ps d taken f t k = one_kept 15 ps (situations m d) _ f t k.1
-tells_broken m ps d aimed-right f t k = one_kept 16 ps (situations m d) _ f t k.1
+tells_broken m ps d aimed_right f t k = one_kept 16 ps (situations m d) _ f t k.1
 tells_broken m ps d single f t k = one_kept 17 ps (situations m d) _ f t k.1
 tells_broken m ps d needed f (inl t) k = t.first.breaks (k.0 t.need)
 tells_broken m ps d needed f (inr t) k = needs_broken m ps (situations m d) f t.1 (every_right (Keeps18 m) t.1.before (t.1.one ∷ t.1.after) (subst (AllByRecursion (Keeps18 m)) t.1.are k.1)).0
@@ -151,7 +151,7 @@ needs_once m ps ss f g x y =
 tells_once : (m : Meaning) (ps : List Placed) (d : Dataset) (r : BookRule) (f g : Fault) → BookTells m ps d r f → BookTells m ps d r g → f ≡ g
 tells_once m ps d known f g x y = breaks_book_once 14 ps (situations m d) _ f g x y
 tells_once m ps d taken f g x y = breaks_book_once 15 ps (situations m d) _ f g x y
-tells_once m ps d aimed-right f g x y = breaks_book_once 16 ps (situations m d) _ f g x y
+tells_once m ps d aimed_right f g x y = breaks_book_once 16 ps (situations m d) _ f g x y
 tells_once m ps d single f g x y = breaks_book_once 17 ps (situations m d) _ f g x y
 tells_once m ps d needed f g (inl x) (inl y) = top_once m ps d f g x y
 tells_once m ps d needed f g (inl x) (inr y) = absurd (x.first.breaks (y.0 x.need))

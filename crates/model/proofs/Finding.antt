@@ -7,7 +7,7 @@ use Rattle.model.specs.declared.Context.TheVariants.{Top, Under}
 use Rattle.model.specs.declared.Row.{Row}
 use Rattle.model.specs.Books.{Meaning, Lawful}
 use Rattle.model.specs.Datasets.{Entry}
-use Rattle.model.specs.Refusals.{BookRule, known, taken, aimed-right, single, needed, filled, book_rule_number}
+use Rattle.model.specs.Refusals.{BookRule, known, taken, aimed_right, single, needed, filled, book_rule_number}
 use Rattle.model.specs.Positions.{within, row_at, under_at, top_at, NeedMet, RowKeeps, RowlessKeeps, KeepsAt, AllKeep, Lacks, finding, Earlier, BrokenAt, Finds, FindsNone, Judges, Told, FirstOf, From, LackOf, LackIn, NeedsOf, lowest}
 use Rattle.model.proofs.Options.{never}
 
@@ -67,7 +67,7 @@ module _ (m : Meaning) (b : List Entry) where
       go : (rule : BookRule) → 14 < book_rule_number rule → RowlessKeeps m b rule i
       go known h = absurd (omega arith)
       go taken h = tt
-      go aimed-right h = tt
+      go aimed_right h = tt
       go single h = tt
       go needed h = λ j t f. never t (sym (lawful.uncounted (Under m.types) j (let low = lawful.no_needs m.types (omega arith) in omega arith)) ∙ f)
       go filled h = tt
@@ -136,7 +136,7 @@ module _ (m : Meaning) (b : List Entry) where
       go : Earlier m b known
       go known h = absurd (omega arith)
       go taken h = absurd (omega arith)
-      go aimed-right h = absurd (omega arith)
+      go aimed_right h = absurd (omega arith)
       go single h = absurd (omega arith)
       go needed h = absurd (omega arith)
       go filled h = absurd (omega arith)
@@ -148,31 +148,31 @@ module _ (m : Meaning) (b : List Entry) where
         go : Earlier m b taken
         go known h = (tt, k14)
         go taken h = absurd (omega arith)
-        go aimed-right h = absurd (omega arith)
+        go aimed_right h = absurd (omega arith)
         go single h = absurd (omega arith)
         go needed h = absurd (omega arith)
         go filled h = absurd (omega arith)
 
     module _ (k15 : AllKeep m b taken) where
-      pub found_aimed : (i : ℕ) → FirstOf (KeepsAt m b aimed-right) (length b) (Some i) → Finds m b (finding aimed-right i None)
+      pub found_aimed : (i : ℕ) → FirstOf (KeepsAt m b aimed_right) (length b) (Some i) → Finds m b (finding aimed_right i None)
       found_aimed i f = record { earlier = go; broken = (f, refl) }
         where
-          go : Earlier m b aimed-right
+          go : Earlier m b aimed_right
           go known h = (tt, k14)
           go taken h = (tt, k15)
-          go aimed-right h = absurd (omega arith)
+          go aimed_right h = absurd (omega arith)
           go single h = absurd (omega arith)
           go needed h = absurd (omega arith)
           go filled h = absurd (omega arith)
 
-      module _ (k16 : AllKeep m b aimed-right) where
+      module _ (k16 : AllKeep m b aimed_right) where
         pub found_single : (i : ℕ) → FirstOf (KeepsAt m b single) (length b) (Some i) → Finds m b (finding single i None)
         found_single i f = record { earlier = go; broken = (f, refl) }
           where
             go : Earlier m b single
             go known h = (tt, k14)
             go taken h = (tt, k15)
-            go aimed-right h = (tt, k16)
+            go aimed_right h = (tt, k16)
             go single h = absurd (omega arith)
             go needed h = absurd (omega arith)
             go filled h = absurd (omega arith)
@@ -181,7 +181,7 @@ module _ (m : Meaning) (b : List Entry) where
           before_needed : Earlier m b needed
           before_needed known h = (tt, k14)
           before_needed taken h = (tt, k15)
-          before_needed aimed-right h = (tt, k16)
+          before_needed aimed_right h = (tt, k16)
           before_needed single h = (tt, k17)
           before_needed needed h = absurd (omega arith)
           before_needed filled h = absurd (omega arith)
@@ -196,7 +196,7 @@ module _ (m : Meaning) (b : List Entry) where
                 go : Earlier m b filled
                 go known h = (tt, k14)
                 go taken h = (tt, k15)
-                go aimed-right h = (tt, k16)
+                go aimed_right h = (tt, k16)
                 go single h = (tt, k17)
                 go needed h = k18
                 go filled h = absurd (omega arith)
@@ -207,13 +207,13 @@ module _ (m : Meaning) (b : List Entry) where
                 go : (r : BookRule) → AllKeep m b r
                 go known = k14
                 go taken = k15
-                go aimed-right = k16
+                go aimed_right = k16
                 go single = k17
                 go needed = k18.1
                 go filled = k19
 
   -- for one pass that has noted each: the lowest is told
-  pub lowest_judges : (o14 o15 o16 o17 : Option ℕ) (o18 : Option (ℕ × ℕ)) (o19 : Option ℕ) → FirstOf (KeepsAt m b known) (length b) o14 → FirstOf (KeepsAt m b taken) (length b) o15 → FirstOf (KeepsAt m b aimed-right) (length b) o16 → FirstOf (KeepsAt m b single) (length b) o17 → NeedsOf m b o18 → FirstOf (KeepsAt m b filled) (length b) o19 → Judges m b (lowest o14 o15 o16 o17 o18 o19)
+  pub lowest_judges : (o14 o15 o16 o17 : Option ℕ) (o18 : Option (ℕ × ℕ)) (o19 : Option ℕ) → FirstOf (KeepsAt m b known) (length b) o14 → FirstOf (KeepsAt m b taken) (length b) o15 → FirstOf (KeepsAt m b aimed_right) (length b) o16 → FirstOf (KeepsAt m b single) (length b) o17 → NeedsOf m b o18 → FirstOf (KeepsAt m b filled) (length b) o19 → Judges m b (lowest o14 o15 o16 o17 o18 o19)
   lowest_judges (Some i) o15 o16 o17 o18 o19 k14 k15 k16 k17 k18 k19 = found_known i k14
   lowest_judges None (Some i) o16 o17 o18 o19 k14 k15 k16 k17 k18 k19 = found_taken k14 i k15
   lowest_judges None None (Some i) o17 o18 o19 k14 k15 k16 k17 k18 k19 = found_aimed k14 k15 i k16
@@ -230,7 +230,7 @@ module _ (m : Meaning) (b : List Entry) where
   broken_within : (rule : BookRule) (i : ℕ) (o : Option ℕ) → 0 < length b → BrokenAt m b rule i o → i < length b
   broken_within known i o some (f, e) = f.within
   broken_within taken i o some (f, e) = f.within
-  broken_within aimed-right i o some (f, e) = f.within
+  broken_within aimed_right i o some (f, e) = f.within
   broken_within single i o some (f, e) = f.within
   broken_within needed i o some (t, e, inl (here, l)) = omega arith
   broken_within needed i o some (t, e, inr (top, within, before, l)) = within

@@ -12,7 +12,7 @@ use Rattle.model.specs.Datasets.{none, end, Dataset, tops, entries_of, entries, 
 use Rattle.model.specs.Files.{Placed, bytes_of, InPlace}
 use Rattle.model.specs.Rules.{top_types, Situation, situations, NeedsMet, Belongs}
 use Rattle.model.specs.Edits.{body}
-use Rattle.model.specs.Refusals.{fault, First, lines_of, byte_at, others, BreaksBook, BreaksTop, BreaksNeeds, BookRule, known, taken, aimed-right, single, needed, filled, BookKeeps, TopKeeps, BookTells, BookRefusal, Refuses, booked}
+use Rattle.model.specs.Refusals.{fault, First, lines_of, byte_at, others, BreaksBook, BreaksTop, BreaksNeeds, BookRule, known, taken, aimed_right, single, needed, filled, BookKeeps, TopKeeps, BookTells, BookRefusal, Refuses, booked}
 use Rattle.model.specs.declared.Fault.{Fault}
 use Rattle.model.specs.Positions.{within, row_at, under_at, top_at, NeedMet, KeepsAt, AllKeep, TopMet, Lacks, Finding, finding, TopAt, BrokenAt, Finds, FindsNone, Told, fault_of}
 use Rattle.model.proofs.Flat.{body_is}
@@ -60,7 +60,7 @@ module _ (m : Meaning) (d : Dataset) where
   top_keeps : (rule : BookRule) → TopAt m (entries_of (tops d)) rule → TopKeeps m d rule
   top_keeps known k = tt
   top_keeps taken k = tt
-  top_keeps aimed-right k = tt
+  top_keeps aimed_right k = tt
   top_keeps single k = tt
   top_keeps needed k = top_met k
   top_keeps filled k = tt
@@ -105,7 +105,7 @@ module _ (m : Meaning) (d : Dataset) where
     tells_at : (rule : BookRule) → BrokenAt m (entries_of (tops d)) rule i o → BookTells m ps d rule (fault_of ps (finding rule i o))
     tells_at known (f, e) = breaks_at 14 ps known i o f e
     tells_at taken (f, e) = breaks_at 15 ps taken i o f e
-    tells_at aimed-right (f, e) = breaks_at 16 ps aimed-right i o f e
+    tells_at aimed_right (f, e) = breaks_at 16 ps aimed_right i o f e
     tells_at single (f, e) = breaks_at 17 ps single i o f e
     tells_at needed (t, e, inl (here, lacks)) = inl (lacks_top t e here lacks)
     tells_at needed (t, e, inr (top, lt, before, lacks)) = inr (top_met top, lacks_needs t e lt before lacks)
@@ -115,7 +115,7 @@ module _ (m : Meaning) (d : Dataset) where
   finds_none f = record {
     known = every_at known (f.all known);
     taken = every_at taken (f.all taken);
-    aimed = every_at aimed-right (f.all aimed-right);
+    aimed = every_at aimed_right (f.all aimed_right);
     single = every_at single (f.all single);
     top_complete = top_met f.top;
     complete = every_at needed (f.all needed);

@@ -14,7 +14,7 @@ use Rattle.model.specs.Datasets.{Dataset, MARK, lines}
 use Rattle.model.specs.Books.{Meaning}
 use Rattle.model.specs.Files.{LineEnd, Placed, GoodPlaced, bytes_of, all_bytes, InPlace, Lined, Throughout, Ordered}
 use Rattle.model.specs.Rules.{Situation, situations, Belongs}
-use Rattle.model.specs.Refusals.{BannedAt, Starts, NoLine, EndsWhole, Unlined, lines_of, others, Keeps12, Keeps13, BreaksBook, LineRule, levels, first, last, steps, named, continued, room, apart, aimed, LineKeeps, BookRule, known, taken, aimed-right, single, needed, filled, BookTells, Refuses, too_long, malformed, forbidden, unlined, lined, booked}
+use Rattle.model.specs.Refusals.{BannedAt, Starts, NoLine, EndsWhole, Unlined, lines_of, others, Keeps12, Keeps13, BreaksBook, LineRule, levels, first, last, steps, named, continued, room, apart, aimed, LineKeeps, BookRule, known, taken, aimed_right, single, needed, filled, BookTells, Refuses, too_long, malformed, forbidden, unlined, lined, booked}
 use Rattle.model.specs.declared.Fault.{Fault}
 use Rattle.model.specs.Runs.{ReadsAs}
 use Rattle.model.proofs.Parts.{Begins, clash}
@@ -172,7 +172,7 @@ book_kept number ps ss Keeps f h b = b.broken (every_right Keeps b.before (b.one
 pub book_keeps : (m : Meaning) (ps : List Placed) (d : Dataset) (r : BookRule) (f : Fault) → Belongs m d → BookTells m ps d r f → ⊥
 book_keeps m ps d known f h t = book_kept 14 ps (situations m d) _ f h.known t
 book_keeps m ps d taken f h t = book_kept 15 ps (situations m d) _ f h.taken t
-book_keeps m ps d aimed-right f h t = book_kept 16 ps (situations m d) _ f h.aimed t
+book_keeps m ps d aimed_right f h t = book_kept 16 ps (situations m d) _ f h.aimed t
 book_keeps m ps d single f h t = book_kept 17 ps (situations m d) _ f h.single t
 book_keeps m ps d needed f h (inl t) = t.first.breaks (h.top_complete t.need)
 book_keeps m ps d needed f h (inr t) = t.1.first.breaks ((every_right _ t.1.before (t.1.one ∷ t.1.after) (subst (AllByRecursion (Rattle.model.specs.Rules.Keeps18 m)) t.1.are h.complete)).0 t.1.need)

@@ -12,7 +12,7 @@ use Rattle.model.specs.Datasets.{Structures, end, next, Record, Dataset, tops, E
 use Rattle.model.specs.Kinds.{Takes}
 use Rattle.model.specs.Rules.{below, typed, types_of, top_types, Situation, situations, NamesType}
 use Rattle.model.specs.Edits.{no_entry}
-use Rattle.model.specs.Refusals.{BookRule, known, taken, aimed-right, single, needed, filled, BookKeeps}
+use Rattle.model.specs.Refusals.{BookRule, known, taken, aimed_right, single, needed, filled, BookKeeps}
 use Rattle.model.specs.Positions.{Mark, mark, no_mark, type_in, within, types_ahead, marks, level_at, row_at, seen_at, ahead_at, before_at, under_at, LeafAt, AllTyped, NeedMet, KeepsAt, top_at}
 use Rattle.model.proofs.Parts.{Begins}
 use Rattle.model.proofs.Names.{every_right}
@@ -137,7 +137,7 @@ module _ (m : Meaning) (d : Dataset) (i : ℕ) (s : Situation) (at : Situated m 
   pub keeps_at : (rule : BookRule) → BookKeeps m d rule s → KeepsAt m (entries_of (tops d)) rule i
   keeps_at known k = cases_both s.row (row_at m (entries_of (tops d)) i) at.row (λ e. e) (λ r u. tt) k
   keeps_at taken k = cases_both s.row (row_at m (entries_of (tops d)) i) at.row (λ e. tt) (λ r q. subst (Takes m (m.kind r.typed)) at.payload q) k
-  keeps_at aimed-right k = cases_both s.row (row_at m (entries_of (tops d)) i) at.row (λ e. tt) (λ r q t x kind p. names_all m x t d (q t x kind (at.payload ∙ p))) k
+  keeps_at aimed_right k = cases_both s.row (row_at m (entries_of (tops d)) i) at.row (λ e. tt) (λ r q t x kind p. names_all m x t d (q t x kind (at.payload ∙ p))) k
   keeps_at single k = cases_both s.row (row_at m (entries_of (tops d)) i) at.row (λ e. tt) (λ r q has. q (subst (λ ts. Has ts (Some r.typed)) (sym at.before) has)) k
   keeps_at needed k =
       let b = entries_of (tops d) in
@@ -148,7 +148,7 @@ module _ (m : Meaning) (d : Dataset) (i : ℕ) (s : Situation) (at : Situated m 
   pub at_keeps : (rule : BookRule) → KeepsAt m (entries_of (tops d)) rule i → BookKeeps m d rule s
   at_keeps known k = cases_both (row_at m (entries_of (tops d)) i) s.row (sym at.row) (λ e. e) (λ r u. tt) k
   at_keeps taken k = cases_both (row_at m (entries_of (tops d)) i) s.row (sym at.row) (λ e. tt) (λ r q. subst (Takes m (m.kind r.typed)) (sym at.payload) q) k
-  at_keeps aimed-right k = cases_both (row_at m (entries_of (tops d)) i) s.row (sym at.row) (λ e. tt) (λ r q t x kind p. all_names m x t d (q t x kind (sym at.payload ∙ p))) k
+  at_keeps aimed_right k = cases_both (row_at m (entries_of (tops d)) i) s.row (sym at.row) (λ e. tt) (λ r q t x kind p. all_names m x t d (q t x kind (sym at.payload ∙ p))) k
   at_keeps single k = cases_both (row_at m (entries_of (tops d)) i) s.row (sym at.row) (λ e. tt) (λ r q has. q (subst (λ ts. Has ts (Some r.typed)) at.before has)) k
   at_keeps needed k =
       let b = entries_of (tops d) in

@@ -1,7 +1,7 @@
 -- The index of identifiers from a sort of them with their cards. Assumes nothing.
 use Rattle.std.proofs.Common.{◌≡◌, ℕ, ◌+◌, ◌<◌, cond, eqb, ltb, ◌⊎◌, List, [], ◌∷◌, ◌++◌, map, length, get_or, set, Some, None, Option, Ordering, Less, Equal, Greater, sym, refl, ap, ◌∙◌, subst, inl, inr, true≢false, arith, length-set, Bor}
 use lib.ListN.{length-map}
-use Rattle.std.specs.Cmp.{nat_cmp_total, pairs, ranks}
+use Rattle.std.specs.Cmp.{nat_cmp_total, ranks}
 use Rattle.std.specs.Cmp.Lexicographic.{slice_cmp, lists_total}
 use Rattle.std.specs.Ordering.{is_lt, is_gt, ordering_reverse, ordering_then, MatchOrdering, nat_cmp}
 use Rattle.std.specs.List.Sorted.{IsPermutation, IsSortedWithin}

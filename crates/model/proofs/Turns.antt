@@ -12,7 +12,7 @@ use Rattle.model.specs.Books.{Meaning}
 use Rattle.model.specs.Datasets.{Structures, end, next, Record, entries_at, pointer, Dataset, tops, Entry, entry, entries_of, entries, identifiers, Apart, IsDataset, GoodPayload, TRLR, none}
 use Rattle.model.specs.Edits.{no_entry, body}
 use Rattle.model.specs.Kinds.{may_be_emptied}
-use Rattle.model.specs.Refusals.{aimed-right, single, filled}
+use Rattle.model.specs.Refusals.{aimed_right, single, filled}
 use Rattle.model.specs.Positions.{type_in, within, level_at, row_at, seen_at, ahead_at, before_at, under_at, BareAt, AllTyped, RowKeeps, open_at, Levelled, NamedApart, Aimed, Sound, Contexts, Seen, Ahead, turned, Turns}
 use Rattle.model.proofs.Names.{own, every_left, has_cons, has_here, has_there, has_split, identifiers_cons, identifiers_append}
 use Rattle.model.proofs.Options.{never, some_same}
@@ -273,21 +273,21 @@ module _ (m : Meaning) (b : List Entry) (apart : NamedApart b) where
 
   -- entry i has the row r of a pointer kind and points to x, which is at j, with the row q
   module _ (i : ℕ) (r : Row) (t : ℕ) (x : List ℕ) (j : ℕ) (q : Row) (kind : m.kind r.typed ≡ Pointer t) (points : (get_or b i no_entry).payload ≡ pointer x) (h : j < length b) (named : (get_or b j no_entry).identifier ≡ Some x) (row : row_at m b j ≡ Some q) where
-    pub aimed_kept : q.typed ≡ t → RowKeeps m b aimed-right i r
+    pub aimed_kept : q.typed ≡ t → RowKeeps m b aimed_right i r
     aimed_kept e u y k p =
         let same_t : t ≡ u = (let c : Pointer t ≡ Pointer u = sym kind ∙ k in cc) in
         let same_x : x ≡ y = (let c : pointer x ≡ pointer y = sym points ∙ p in cc) in
         subst (λ v. AllTyped m b v u) same_x (typed_one x u j h named (ap type_in row ∙ ap Some (e ∙ same_t)))
 
-    pub aimed_broken : (q.typed ≡ t → ⊥) → RowKeeps m b aimed-right i r → ⊥
+    pub aimed_broken : (q.typed ≡ t → ⊥) → RowKeeps m b aimed_right i r → ⊥
     aimed_broken n k = n (some_same q.typed t (sym (ap type_in row) ∙ k t x kind points j h named))
 
-    pub aimed_decides : Decides (eqb q.typed t) (RowKeeps m b aimed-right i r)
+    pub aimed_decides : Decides (eqb q.typed t) (RowKeeps m b aimed_right i r)
     aimed_decides = (λ e. aimed_kept (eqb-true q.typed t e), λ k. elim (cases_eq q.typed t) [ inl e ↦ eq-eqb q.typed t e | inr n ↦ absurd (aimed_broken n k) ])
 
 -- of another kind, or with another payload
-pub aimed_kind : (m : Meaning) (b : List Entry) (i : ℕ) (r : Row) → ((t : ℕ) → m.kind r.typed ≡ Pointer t → ⊥) → RowKeeps m b aimed-right i r
+pub aimed_kind : (m : Meaning) (b : List Entry) (i : ℕ) (r : Row) → ((t : ℕ) → m.kind r.typed ≡ Pointer t → ⊥) → RowKeeps m b aimed_right i r
 aimed_kind m b i r n t x k p = absurd (n t k)
 
-pub aimed_payload : (m : Meaning) (b : List Entry) (i : ℕ) (r : Row) → ((x : List ℕ) → (get_or b i no_entry).payload ≡ pointer x → ⊥) → RowKeeps m b aimed-right i r
+pub aimed_payload : (m : Meaning) (b : List Entry) (i : ℕ) (r : Row) → ((x : List ℕ) → (get_or b i no_entry).payload ≡ pointer x → ⊥) → RowKeeps m b aimed_right i r
 aimed_payload m b i r n t x k p = absurd (n x p)

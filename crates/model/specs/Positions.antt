@@ -10,7 +10,7 @@ use Rattle.model.specs.Datasets.{none, pointer, Entry}
 use Rattle.model.specs.Kinds.{Takes, may_be_emptied}
 use Rattle.model.specs.Edits.{no_entry}
 use Rattle.model.specs.Files.{Placed}
-use Rattle.model.specs.Refusals.{First, byte_at, others, BookRule, known, taken, aimed-right, single, needed, filled, book_rule_number}
+use Rattle.model.specs.Refusals.{First, byte_at, others, BookRule, known, taken, aimed_right, single, needed, filled, book_rule_number}
 use Rattle.model.specs.declared.Fault.{Fault}
 
 -- an entry with its row
@@ -107,7 +107,7 @@ ExcusedAt m i r = (i ≡ 0) ⊎ ((r.required ≡ true) × (may_be_emptied (m.kin
 abbrev pub RowKeeps : Meaning → List Entry → BookRule → ℕ → Row → Type 0
 RowKeeps m b known i r = Unit {0}
 RowKeeps m b taken i r = Takes m (m.kind r.typed) (get_or b i no_entry).payload
-RowKeeps m b aimed-right i r = (t : ℕ) (x : List ℕ) → m.kind r.typed ≡ Pointer t → (get_or b i no_entry).payload ≡ pointer x → AllTyped m b x t
+RowKeeps m b aimed_right i r = (t : ℕ) (x : List ℕ) → m.kind r.typed ≡ Pointer t → (get_or b i no_entry).payload ≡ pointer x → AllTyped m b x t
 RowKeeps m b single i r = Has (before_at m b i) (Some r.typed) → r.many ≡ true
 RowKeeps m b needed i r = (j : ℕ) → NeedMet m (Under r.typed) (under_at m b i) j
 RowKeeps m b filled i r = BareAt b i → ExcusedAt m i r
@@ -116,7 +116,7 @@ RowKeeps m b filled i r = BareAt b i → ExcusedAt m i r
 abbrev pub RowlessKeeps : Meaning → List Entry → BookRule → ℕ → Type 0
 RowlessKeeps m b known i = ⊥
 RowlessKeeps m b taken i = Unit {0}
-RowlessKeeps m b aimed-right i = Unit {0}
+RowlessKeeps m b aimed_right i = Unit {0}
 RowlessKeeps m b single i = Unit {0}
 RowlessKeeps m b needed i = (j : ℕ) → NeedMet m (Under m.types) (under_at m b i) j
 RowlessKeeps m b filled i = Unit {0}
@@ -154,7 +154,7 @@ finding rule card missing = record { rule = rule; card = card; missing = missing
 abbrev pub TopAt : Meaning → List Entry → BookRule → Type 0
 TopAt m b known = Unit {0}
 TopAt m b taken = Unit {0}
-TopAt m b aimed-right = Unit {0}
+TopAt m b aimed_right = Unit {0}
 TopAt m b single = Unit {0}
 TopAt m b needed = TopMet m b
 TopAt m b filled = Unit {0}
@@ -169,7 +169,7 @@ LacksAt m b i t = ((i ≡ 0) × Lacks m Top (top_at m b) t) ⊎ (TopMet m b × (
 abbrev pub BrokenAt : Meaning → List Entry → BookRule → ℕ → Option ℕ → Type 0
 BrokenAt m b known i o = First (KeepsAt m b known) (length b) i × (o ≡ None)
 BrokenAt m b taken i o = First (KeepsAt m b taken) (length b) i × (o ≡ None)
-BrokenAt m b aimed-right i o = First (KeepsAt m b aimed-right) (length b) i × (o ≡ None)
+BrokenAt m b aimed_right i o = First (KeepsAt m b aimed_right) (length b) i × (o ≡ None)
 BrokenAt m b single i o = First (KeepsAt m b single) (length b) i × (o ≡ None)
 BrokenAt m b needed i o = (t : ℕ) × (o ≡ Some t) × LacksAt m b i t
 BrokenAt m b filled i o = First (KeepsAt m b filled) (length b) i × (o ≡ None)
@@ -224,7 +224,7 @@ abbrev pub at_needs : Option (ℕ × ℕ) → Option Finding → Option Finding
 at_needs o later = elim o [ None ↦ later | Some p ↦ Some (finding needed p.0 (Some p.1)) ]
 
 abbrev pub lowest : (o14 o15 o16 o17 : Option ℕ) (o18 : Option (ℕ × ℕ)) (o19 : Option ℕ) → Option Finding
-lowest o14 o15 o16 o17 o18 o19 = at_rule known o14 (at_rule taken o15 (at_rule aimed-right o16 (at_rule single o17 (at_needs o18 (at_rule filled o19 None)))))
+lowest o14 o15 o16 o17 o18 o19 = at_rule known o14 (at_rule taken o15 (at_rule aimed_right o16 (at_rule single o17 (at_needs o18 (at_rule filled o19 None)))))
 
 -- What a loop keeps in arrays with one place for each level.
 

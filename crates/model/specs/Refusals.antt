@@ -202,13 +202,13 @@ pub record LineRefusal (cards : ℕ) (ps : List Placed) (f : Fault) : Type 0 whe
 
 -- The rules of the book.
 pub data BookRule : Type 0 where
-  known taken aimed-right single needed filled : BookRule
+  known taken aimed_right single needed filled : BookRule
 
 -- the number of each
 abbrev pub book_rule_number : BookRule → ℕ
 book_rule_number known = 14
 book_rule_number taken = 15
-book_rule_number aimed-right = 16
+book_rule_number aimed_right = 16
 book_rule_number single = 17
 book_rule_number needed = 18
 book_rule_number filled = 19
@@ -217,7 +217,7 @@ book_rule_number filled = 19
 abbrev pub BookKeeps : Meaning → Dataset → BookRule → Situation → Type 0
 BookKeeps m d known s = Keeps14 s
 BookKeeps m d taken s = Keeps15 m s
-BookKeeps m d aimed-right s = Keeps16 m d s
+BookKeeps m d aimed_right s = Keeps16 m d s
 BookKeeps m d single s = Keeps17 s
 BookKeeps m d needed s = Keeps18 m s
 BookKeeps m d filled s = Keeps19 m s
@@ -226,7 +226,7 @@ BookKeeps m d filled s = Keeps19 m s
 abbrev pub TopKeeps : Meaning → Dataset → BookRule → Type 0
 TopKeeps m d known = Unit {0}
 TopKeeps m d taken = Unit {0}
-TopKeeps m d aimed-right = Unit {0}
+TopKeeps m d aimed_right = Unit {0}
 TopKeeps m d single = Unit {0}
 TopKeeps m d needed = NeedsMet m Top (top_types m (tops d))
 TopKeeps m d filled = Unit {0}
@@ -235,7 +235,7 @@ TopKeeps m d filled = Unit {0}
 abbrev pub BookTells : Meaning → List Placed → Dataset → BookRule → Fault → Type 0
 BookTells m ps d known f = BreaksBook 14 ps (situations m d) Keeps14 f
 BookTells m ps d taken f = BreaksBook 15 ps (situations m d) (Keeps15 m) f
-BookTells m ps d aimed-right f = BreaksBook 16 ps (situations m d) (Keeps16 m d) f
+BookTells m ps d aimed_right f = BreaksBook 16 ps (situations m d) (Keeps16 m d) f
 BookTells m ps d single f = BreaksBook 17 ps (situations m d) Keeps17 f
 BookTells m ps d needed f = BreaksTop m ps d f ⊎ (NeedsMet m Top (top_types m (tops d)) × BreaksNeeds m ps (situations m d) f)
 BookTells m ps d filled f = BreaksBook 19 ps (situations m d) (Keeps19 m) f

@@ -1,5 +1,7 @@
 // What the product means: the definitions are in specs/, the laws that follow from them in proofs/. Here are the plain
 // types that both speak of, and functions that do nothing but name a law, so that the check asks for its proof.
+#![tactic(auto)]
+
 ghost use Rattle.model.specs.Calls.{PerformsEvent};
 ghost use Rattle.model.specs.Examples.{WorkedExamples, RemovalExamples};
 ghost use Rattle.model.specs.Laws.{Promised, LinedOnce, SameLinesOnce, LinesOnce, HeldOnce, RefusedOnce, WrittenHasLines, BelongsKept, DatasetKept, AfterKept, PremisesMet};

@@ -1,5 +1,7 @@
 // Cuts a payload at spaces and commas, for every grammar. The plain grammars stand here too: flags, integers, versions, names
 // and lists.
+#![tactic(auto)]
+
 mod list;
 mod plain;
 mod words;

@@ -100,7 +100,7 @@ pub fn are_texts(text: &[u8]) -> bool
 
 // The words behind the first comma.
 fn are_later_words<B: Book>(book: &B, set: u16, text: &[u8]) -> bool
-    ensures { result ≡ later_pass ((meaning book.now).member set) (cut 44 text.now) }
+    ensures { result ≡ later_pass ((B.meaning book.now).member set) (cut 44 text.now) }
 {
     let mut rest = text;
     loop {
@@ -120,7 +120,7 @@ fn are_later_words<B: Book>(book: &B, set: u16, text: &[u8]) -> bool
 
 // Words of a set between commas. Spaces beside a comma are dropped, and those at the very ends count as part of a word.
 pub fn are_words<B: Book>(book: &B, set: u16, text: &[u8]) -> bool
-    ensures { result ≡ pieces_pass ((meaning book.now).member set) (cut 44 text.now) }
+    ensures { result ≡ pieces_pass ((B.meaning book.now).member set) (cut 44 text.now) }
 {
     let (first, rest) = cut_at(text, b',');
     match rest {

@@ -7,7 +7,7 @@ ghost use Rattle.model.specs.Grammar.{is_flag, is_integer, is_version, is_person
 pub fn is_flag(text: &[u8]) -> bool
     ensures { result ≡ is_flag text.now }
 {
-    text == b"Y"
+    text == b"Y".as_slice()
 }
 
 fn are_digits(text: &[u8]) -> bool
@@ -32,7 +32,7 @@ pub fn is_integer(text: &[u8]) -> bool
 pub fn is_version(text: &[u8]) -> bool
     ensures { result ≡ is_version text.now }
 {
-    if text == b"7.0" {
+    if text == b"7.0".as_slice() {
         return true;
     }
     match text.strip_prefix(b"7.0.") {

@@ -46,7 +46,7 @@ fn told_of_names(file: &[u8], cards: &[Card], fault: NameFault) -> ReadFault
 
 // Whether the cards keep the rules of the book, once they keep those of the identifiers.
 fn judge_named<B: Book>(entered: Entered<'_, '_, '_>, book: &B) -> Result<(), ReadFault>
-    ensures { JudgesNamed (meaning book.now) entered.entry result }
+    ensures { JudgesNamed (B.meaning book.now) entered.entry result }
 {
     match judge(book, &entered) {
         Some(finding) => Err(told(finding, place_of(entered.file, entered.cards, finding.card))),
@@ -61,7 +61,7 @@ fn judge_with<'a, B: Book>(
     book: &B,
     table: &mut [(&'a [u8], usize)],
 ) -> Result<(), ReadFault>
-    ensures { length cards.now ≤ length table.old → Judges (meaning book.now) file.now cards.now result }
+    ensures { length cards.now ≤ length table.old → Judges (B.meaning book.now) file.now cards.now result }
 {
     match check_names(file, cards, table) {
         Err(fault) => Err(told_of_names(file, cards, fault)),
@@ -74,14 +74,14 @@ fn judge_with<'a, B: Book>(
 }
 
 fn judge_cards<B: Book>(file: &[u8], cards: &[Card], book: &B) -> Result<(), ReadFault>
-    ensures { length cards.now ≤ 65535 → Judges (meaning book.now) file.now cards.now result }
+    ensures { length cards.now ≤ 65535 → Judges (B.meaning book.now) file.now cards.now result }
 {
     let mut table = [(&file[0..0], 0); MOST];
     judge_with(file, cards, book, &mut table)
 }
 
 fn fill_and_judge<B: Book>(file: &[u8], drawer: &mut [Card], book: &B) -> Result<usize, ReadFault>
-    ensures { Fits (meaning book.now) file.now (length drawer.old) result drawer.new }
+    ensures { Fits (B.meaning book.now) file.now (length drawer.old) result drawer.new }
 {
     lines::check(file)?;
     let count = match fill(file, drawer) {
@@ -96,7 +96,7 @@ fn fill_and_judge<B: Book>(file: &[u8], drawer: &mut [Card], book: &B) -> Result
 // Reads a tree into the drawer. Accepted, every line but a continuation has a card, in order, and the other cards are
 // blank; the answer is how many there are. Refused, every card is blank.
 pub fn read<B: Book>(file: &[u8], drawer: &mut [Card], book: &B) -> Result<usize, ReadFault>
-    ensures reads { Reads (meaning book.now) file.now drawer.old result drawer.new }
+    ensures reads { Reads (B.meaning book.now) file.now drawer.old result drawer.new }
     ensures long { length drawer.new ≡ length drawer.old }
 {
     let answer = fill_and_judge(file, drawer, book);

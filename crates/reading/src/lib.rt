@@ -1,4 +1,6 @@
 // A tree is read into a drawer.
+#![tactic(auto)]
+
 mod entered;
 mod fault;
 mod filing;

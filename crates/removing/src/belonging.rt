@@ -13,7 +13,7 @@ use reading::Entered;
 
 // Whether the tree of the entered cards breaks no rule of the book.
 pub fn keeps_rules<B: Book>(entered: Entered<'_, '_, '_>, book: &B) -> bool
-    ensures { (d : Dataset) → EnteredAs entered.entry d → Decides result (Belongs (meaning book.now) d) }
+    ensures { (d : Dataset) → EnteredAs entered.entry d → Decides result (Belongs (B.meaning book.now) d) }
 {
     judge(book, &entered).is_none()
 }
@@ -24,7 +24,7 @@ fn belongs_with<'a, B: Book>(
     book: &B,
     table: &mut [(&'a [u8], usize)],
 ) -> Option<bool>
-    ensures { 65535 ≤ length table.old → Tells (meaning book.now) file.now drawer.now result }
+    ensures { 65535 ≤ length table.old → Tells (B.meaning book.now) file.now drawer.now result }
 {
     let entered = enter(file, drawer, table)?;
     Some(keeps_rules(entered, book))
@@ -32,7 +32,7 @@ fn belongs_with<'a, B: Book>(
 
 // Whether the tree that a drawer holds belongs to the book; none where it holds no tree of the file.
 pub fn belongs<B: Book>(file: &[u8], drawer: &[Card], book: &B) -> Option<bool>
-    ensures tells { Tells (meaning book.now) file.now drawer.now result }
+    ensures tells { Tells (B.meaning book.now) file.now drawer.now result }
 {
     let mut table = [(&file[0..0], 0); MOST];
     belongs_with(file, drawer, book, &mut table)

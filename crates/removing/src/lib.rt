@@ -1,4 +1,6 @@
 // Whether the tree that a drawer holds belongs to a book, and the removal of people from it.
+#![tactic(auto)]
+
 mod belonging;
 mod entering;
 mod removal;

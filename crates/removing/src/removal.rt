@@ -21,7 +21,7 @@ fn plan_entered<B: Book>(
     book: &B,
     card: usize,
 ) -> Result<Edit, Refusal>
-    ensures { (d : Dataset) → EnteredAs entered.entry d → PlansFor (meaning book.now) d card result }
+    ensures { (d : Dataset) → EnteredAs entered.entry d → PlansFor (B.meaning book.now) d card result }
 {
     if !keeps_rules(entered, book) {
         return Err(Refusal::Foreign);
@@ -43,7 +43,7 @@ fn plan_with<'a, B: Book>(
     card: usize,
     table: &mut [(&'a [u8], usize)],
 ) -> Result<Edit, Refusal>
-    ensures { 65535 ≤ length table.old → Plans (meaning book.now) file.now drawer.now card result }
+    ensures { 65535 ≤ length table.old → Plans (B.meaning book.now) file.now drawer.now card result }
 {
     match enter(file, drawer, table) {
         Some(entered) => plan_entered(entered, book, card),
@@ -52,7 +52,7 @@ fn plan_with<'a, B: Book>(
 }
 
 fn plan<B: Book>(file: &[u8], drawer: &[Card], book: &B, card: usize) -> Result<Edit, Refusal>
-    ensures { Plans (meaning book.now) file.now drawer.now card result }
+    ensures { Plans (B.meaning book.now) file.now drawer.now card result }
 {
     let mut table = [(&file[0..0], 0); MOST];
     plan_with(file, drawer, book, card, &mut table)
@@ -67,7 +67,7 @@ pub fn remove<B: Book>(
     book: &B,
     card: usize,
 ) -> Result<usize, Refusal>
-    ensures removes { (e : Event) → e.answer ≡ remove_answer result → e.left ≡ e.buffer → Removing (meaning book.now) file.now drawer.old card e drawer.new }
+    ensures removes { (e : Event) → e.answer ≡ remove_answer result → e.left ≡ e.buffer → Removing (B.meaning book.now) file.now drawer.old card e drawer.new }
 {
     let edit = plan(file, drawer, book, card)?;
     Ok(apply(file, drawer, edit))

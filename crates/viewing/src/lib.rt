@@ -1,4 +1,6 @@
 // A view of the dataset that a drawer holds: its cards one by one, and its written form.
+#![tactic(auto)]
+
 mod face;
 mod looks;
 mod opening;

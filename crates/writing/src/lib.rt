@@ -1,4 +1,6 @@
 // What is written of one card: its line, and those that continue it, each ended by LF.
+#![tactic(auto)]
+
 mod card;
 mod continued;
 mod copying;

@@ -7,4 +7,4 @@ pub returns-in-Top : goal.returns-in-Top
 returns-in-Top c = at_context Top c.in-Top.is refl
 
 pub returns-in-Under : goal.returns-in-Under
-returns-in-Under c = at_context (Under c.in-Under.typed) c.in-Under.is c.entries-under.ensures.rows
+returns-in-Under c = at_context (Under c.in-Under.typed) c.in-Under.is c.entries_under.ensures.rows

@@ -41,5 +41,5 @@ returns-in-14 c = from_type 14 (omega arith) refl (λ h. from_type 15 h refl (λ
 pub returns-in-32 : goal.returns-in-32
 returns-in-32 c = from_type 32 (omega arith) refl (λ h. from_type 33 h refl (λ h. from_type 34 h refl (λ h. absurd (omega arith))))
 
-pub returns-in-default : goal.returns-in-default
-returns-in-default c = at_no_parent c.args.typed (search rules)
+pub returns-in_default : goal.returns-in_default
+returns-in_default c = at_no_parent c.args.typed (search rules)

@@ -6,13 +6,13 @@ use Rattle.model.specs.LineTurns.{note, spot}
 use Rattle.model.specs.Refusals.{is_end_at}
 use Rattle.model.proofs.Bytes.{checked_start, width_fits, checked_step, checked_invalid, checked_banned, checked_clean}
 use Rattle.characters.proofs.utf8.check.Goals as goal
-use Rattle.characters.proofs.utf8.check.Goals.{then-ends-line, else-ends-line}
+use Rattle.characters.proofs.utf8.check.Goals.{then-ends_line, else-ends_line}
 
 pub returns-then-width-eq0 : goal.returns-then-width-eq0
 returns-then-width-eq0 c m cards = checked_invalid m c.args.file.now cards c.loop-i.i c.loop-i.ends c.loop-i.found (omega arith) c.loop-i.invariant c.loop-i-test.true (sym c.width-width.ensures ∙ c.if-width-eq0.true)
 
-pub overflow-add-i-in-loop-i : goal.overflow-add-i-in-loop-i
-overflow-add-i-in-loop-i c = let h = width_fits c.args.file.now c.loop-i.i c.loop-i-test.true in let e = c.width-width.ensures in omega arith
+pub overflow_add-i-in-loop-i : goal.overflow_add-i-in-loop-i
+overflow_add-i-in-loop-i c = let h = width_fits c.args.file.now c.loop-i.i c.loop-i-test.true in let e = c.width-width.ensures in omega arith
 
 unnoted : (o : Option Place) (s : Place) → o ≡ note o false s
 unnoted None s = refl
@@ -27,18 +27,18 @@ plain file i ends o h l (low, high) =
     let inside : false ≡ is_end_at file i = grind (arith, nat_tests) in
     checked_step file i ends 1 ends o o false false h l (λ z. omega arith) one allowed inside (omega arith) (unnoted o (spot (ends + 1) i))
 
-pub loop-i-preserved-then-is-plain : goal.loop-i-preserved-then-is-plain
-loop-i-preserved-then-is-plain c = plain c.args.file.now c.loop-i.i c.loop-i.ends c.loop-i.found c.loop-i.invariant c.loop-i-test.true (c.is-plain.ensures c.if-is-plain.true)
+pub loop-i-preserved-then-is_plain : goal.loop-i-preserved-then-is_plain
+loop-i-preserved-then-is_plain c = plain c.args.file.now c.loop-i.i c.loop-i.ends c.loop-i.found c.loop-i.invariant c.loop-i-test.true (c.is_plain.ensures c.if-is_plain.true)
 
 pub loop-i-preserved : goal.loop-i-preserved
 loop-i-preserved c =
     let ends = c.loop-i.ends in
-    let ended = c.ends-line.result in
-    let more : c.if-ends-line.ends ≡ ends + cond ended 1 0 = elim c.if-ends-line.branch [
-      | then-ends-line w ↦ w.ends-is ∙ ap (λ b. ends + cond b 1 0) (sym w.if-ends-line.true)
-      | else-ends-line w ↦ w.ends-is ∙ (let z : ends ≡ ends + 0 = omega arith in z) ∙ ap (λ b. ends + cond b 1 0) (sym w.if-ends-line.false)
+    let ended = c.ends_line.result in
+    let more : c.if-ends_line.ends ≡ ends + cond ended 1 0 = elim c.if-ends_line.branch [
+      | then-ends_line w ↦ w.ends-is ∙ ap (λ b. ends + cond b 1 0) (sym w.if-ends_line.true)
+      | else-ends_line w ↦ w.ends-is ∙ (let z : ends ≡ ends + 0 = omega arith in z) ∙ ap (λ b. ends + cond b 1 0) (sym w.if-ends_line.false)
     ] in
-    checked_step c.args.file.now c.loop-i.i ends c.width-width.result c.if-ends-line.ends c.loop-i.found c.note-found.result c.banned.result ended c.loop-i.invariant c.loop-i-test.true c.if-width-eq0.false c.width-width.ensures c.banned.ensures c.ends-line.ensures more c.note-found.ensures
+    checked_step c.args.file.now c.loop-i.i ends c.width-width.result c.if-ends_line.ends c.loop-i.found c.note-found.result c.banned.result ended c.loop-i.invariant c.loop-i-test.true c.if-width-eq0.false c.width-width.ensures c.banned.ensures c.ends_line.ensures more c.note-found.ensures
 
 pub returns-in-Some : goal.returns-in-Some
 returns-in-Some c m cards = checked_banned m c.args.file.now cards c.loop-i.i c.loop-i.ends c.in-Some.place (omega arith) (subst (Checked c.args.file.now c.loop-i.i c.loop-i.ends) c.in-Some.is c.loop-i.invariant) c.loop-i-test.false

@@ -3,7 +3,7 @@ use Rattle.std.proofs.lemmas.Bool.Decides.{nat_tests}
 use Rattle.model.specs.Bytes.{lead_length, is_next, is_second, width_at}
 use Rattle.model.proofs.Bytes.{width_one, width_four}
 use Rattle.characters.proofs.utf8.width.Goals as goal
-use Rattle.characters.proofs.utf8.width.Goals.{else-goes-second-2-via-then-goes-second-2+then-goes-on-3+else-goes-on-4, else-goes-second-2-via-then-goes-second-2+else-goes-on-3, else-goes-second-2-via-else-goes-second-2}
+use Rattle.characters.proofs.utf8.width.Goals.{else-goes_second-2-via-then-goes_second-2+then-goes_on-3+else-goes_on-4, else-goes_second-2-via-then-goes_second-2+else-goes_on-3, else-goes_second-2-via-else-goes_second-2}
 
 module _ (file : List ℕ) (i : ℕ) where
   one : lead_length (get_or file i 0) ≡ 1 → 1 ≡ width_at file i
@@ -15,9 +15,9 @@ module _ (file : List ℕ) (i : ℕ) where
 pub returns-then-announced-eq1 : goal.returns-then-announced-eq1
 returns-then-announced-eq1 c = one c.args.file.now c.args.i (sym c.announced-announced.ensures ∙ c.if-announced-eq1.true)
 
-pub returns-else-goes-second-2 : goal.returns-else-goes-second-2
-returns-else-goes-second-2 c = none_of_four c.args.file.now c.args.i (sym c.announced-announced.ensures ∙ c.if-announced-eq4.true) (elim c.else-goes-second-2.branch [
-  | else-goes-second-2-via-then-goes-second-2+then-goes-on-3+else-goes-on-4 w ↦ grind (arith, nat_tests)
-  | else-goes-second-2-via-then-goes-second-2+else-goes-on-3 w ↦ grind (arith, nat_tests)
-  | else-goes-second-2-via-else-goes-second-2 w ↦ grind (arith, nat_tests)
+pub returns-else-goes_second-2 : goal.returns-else-goes_second-2
+returns-else-goes_second-2 c = none_of_four c.args.file.now c.args.i (sym c.announced-announced.ensures ∙ c.if-announced-eq4.true) (elim c.else-goes_second-2.branch [
+  | else-goes_second-2-via-then-goes_second-2+then-goes_on-3+else-goes_on-4 w ↦ grind (arith, nat_tests)
+  | else-goes_second-2-via-then-goes_second-2+else-goes_on-3 w ↦ grind (arith, nat_tests)
+  | else-goes_second-2-via-else-goes_second-2 w ↦ grind (arith, nat_tests)
 ])

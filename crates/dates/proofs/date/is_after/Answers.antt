@@ -5,4 +5,4 @@ use Rattle.dates.proofs.Stripping.{after_is}
 use Rattle.dates.proofs.date.is_after.Goals as goal
 
 pub returns-in-Some : goal.returns-in-Some
-returns-in-Some c = c.is-date.ensures ∙ ap (λ o. passes o is_date) c.in-Some.ensures ∙ sym (after_is c.args.word.now (words_of c.args.words))
+returns-in-Some c = c.is_date.ensures ∙ ap (λ o. passes o is_date) c.in-Some.ensures ∙ sym (after_is c.args.word.now (words_of c.args.words))

@@ -1,5 +1,5 @@
 use Rattle.std.proofs.Common.{length, Some, None}
-use Rattle.model.specs.Refusals.{known, taken, aimed-right, single, needed, filled}
+use Rattle.model.specs.Refusals.{known, taken, aimed_right, single, needed, filled}
 use Rattle.model.proofs.Finding.{found_known, found_taken, found_aimed, found_single, found_needed, found_filled, found_none, told}
 use Rattle.judging.proofs.Marking.{marked_known}
 use Rattle.judging.proofs.rules.judge_with.Goals as goal
@@ -22,7 +22,7 @@ returns-in-Some-first-breaking-2 g c b s ok long =
     let t = c.in-default.ensures.rows b s ok long in
     let k14 = marked_known m b c.mark-all.new.marks (length b) t.all in
     let k15 = c.in-default-first-breaking.ensures b s t in
-    told m b aimed-right c.in-Some-first-breaking-2.card None (found_aimed m b k14 k15 c.in-Some-first-breaking-2.card (c.in-Some-first-breaking-2.ensures b s t))
+    told m b aimed_right c.in-Some-first-breaking-2.card None (found_aimed m b k14 k15 c.in-Some-first-breaking-2.card (c.in-Some-first-breaking-2.ensures b s t))
 
 pub returns-in-Some-first-repeated : goal.returns-in-Some-first-repeated
 returns-in-Some-first-repeated g c b s ok long =

@@ -10,4 +10,4 @@ loop-unit-preserved c =
     let ws = words_of c.loop-unit.rest in
     c.loop-unit.invariant
     ∙ at_drop_more (λ us. after_units us ws) (codes "ymwd") i 0 c.loop-unit-test.true
-    ∙ ap (after_units (drop (i + 1) (codes "ymwd"))) (sym c.after-unit-rest.ensures)
+    ∙ ap (after_units (drop (i + 1) (codes "ymwd"))) (sym c.after_unit-rest.ensures)

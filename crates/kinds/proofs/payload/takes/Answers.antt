@@ -13,4 +13,4 @@ decided : (m : Meaning) (k : Kind) (r : Bool) (p q : Payload) → p ≡ q → r 
 decided m k r p q is e = Decides-at r (takes m k p) (e ∙ ap (takes m k) (sym is)) (takes_decides m k p)
 
 pub returns-in-Line : goal.returns-in-Line
-returns-in-Line g c p h = decided (g.B.Book.meaning c.args.book.now) c.args.kind c.takes-line.result p (text c.in-Line.text.now []) (subst (λ x. StandsFor x p) c.in-Line.is h) c.takes-line.ensures
+returns-in-Line g c p h = decided (g.B.Book.meaning c.args.book.now) c.args.kind c.takes_line.result p (text c.in-Line.text.now []) (subst (λ x. StandsFor x p) c.in-Line.is h) c.takes_line.ensures

@@ -13,5 +13,5 @@ some n t is h k =
     let e : cond (filled (take n t)) (Some (drop n t)) None ≡ read_digits t = ap (λ m. cond (filled (take m t)) (Some (drop m t)) None) is in
     ap Some (take_rest t n) ∙ sym (cond-true (filled (take n t)) (Some (drop n t)) None ((decides_filled (take n t)).1 long)) ∙ e
 
-pub returns-in-default : goal.returns-in-default
-returns-in-default c = some c.digits-before.result c.args.text.now c.digits-before.ensures.counts c.digits-before.ensures.within (omega arith)
+pub returns-in_default : goal.returns-in_default
+returns-in_default c = some c.digits_before.result c.args.text.now c.digits_before.ensures.counts c.digits_before.ensures.within (omega arith)

@@ -10,4 +10,4 @@ returns-in-32 c =
     let bs = c.args.bytes.now in
     let (cs, is) = first_is 32 bs (lit< tt) (omega arith) in
     let rest : take (length bs - 1) (drop 1 bs) ≡ cs = take_rest bs 1 ∙ ap (drop 1) is in
-    subst (λ b. ReadsValue read_value b c.read-text.result) (sym is) (subst (λ b. ReadsValue read_payload b c.read-text.result) rest c.read-text.ensures)
+    subst (λ b. ReadsValue read_value b c.read_text.result) (sym is) (subst (λ b. ReadsValue read_payload b c.read_text.result) rest c.read_text.ensures)

@@ -6,32 +6,32 @@ use Rattle.lines.specs.Shown.{ReadsIdentifier}
 use Rattle.lines.proofs.Readers.{first_is, identifier_none, identifier_void, identifier_joined, identifier_found, identifier_absent}
 use Rattle.lines.proofs.line.read_identifier.Goals as goal
 
-pub returns-in-err-identifier : goal.returns-in-err-identifier
-returns-in-err-identifier c =
+pub returns-in_err-identifier-in-64 : goal.returns-in_err-identifier-in-64
+returns-in_err-identifier-in-64 c =
     let bs = c.args.bytes.now in
     let (cs, is) = first_is 64 bs (lit< tt) (omega arith) in
-    subst (ReadsIdentifier bs) (sym c.from-residual.ensures) (ap read_identifier is ∙ identifier_none cs (c.in-err-identifier.ensures cs is))
+    subst (ReadsIdentifier bs) (sym c.from_residual.ensures) (ap read_identifier is ∙ identifier_none cs (c.in_err-identifier-in-64.ensures cs is))
 
-pub returns-then-is-void : goal.returns-then-is-void
-returns-then-is-void c =
+pub returns-then-is_void : goal.returns-then-is_void
+returns-then-is_void c =
     let bs = c.args.bytes.now in
     let (cs, is) = first_is 64 bs (lit< tt) (omega arith) in
-    let (name, found, whole) = c.in-ok-identifier.ensures cs is in
-    ap read_identifier is ∙ identifier_void cs name c.in-ok-identifier.rest.now found (sym whole ∙ c.is-void.ensures.0 c.if-is-void.true)
+    let (name, found, whole) = c.in_ok-identifier-in-64.ensures cs is in
+    ap read_identifier is ∙ identifier_void cs name c.in_ok-identifier-in-64.rest.now found (sym whole ∙ c.is_void.ensures.0 c.if-is_void.true)
 
-pub returns-in-err-read-space : goal.returns-in-err-read-space
-returns-in-err-read-space c =
+pub returns-in_err-read_space-in-64 : goal.returns-in_err-read_space-in-64
+returns-in_err-read_space-in-64 c =
     let bs = c.args.bytes.now in
     let (cs, is) = first_is 64 bs (lit< tt) (omega arith) in
-    let (name, found, whole) = c.in-ok-identifier.ensures cs is in
-    let named : marked name ≡ VOID → ⊥ = λ v. both_ways c.is-void.result c.if-is-void.false (c.is-void.ensures.1 (whole ∙ v)) in
-    subst (ReadsIdentifier bs) (sym c.from-residual-in-err-read-space.ensures) (ap read_identifier is ∙ identifier_joined cs name c.in-ok-identifier.rest.now found named (sym c.in-err-read-space.ensures))
+    let (name, found, whole) = c.in_ok-identifier-in-64.ensures cs is in
+    let named : marked name ≡ VOID → ⊥ = λ v. both_ways c.is_void.result c.if-is_void.false (c.is_void.ensures.1 (whole ∙ v)) in
+    subst (ReadsIdentifier bs) (sym c.from_residual-in_err-read_space-in-64.ensures) (ap read_identifier is ∙ identifier_joined cs name c.in_ok-identifier-in-64.rest.now found named (sym c.in_err-read_space-in-64.ensures))
 
-pub returns-in-ok-read-space : goal.returns-in-ok-read-space
-returns-in-ok-read-space c =
+pub returns-in_ok-read_space-in-64 : goal.returns-in_ok-read_space-in-64
+returns-in_ok-read_space-in-64 c =
     let bs = c.args.bytes.now in
     let (cs, is) = first_is 64 bs (lit< tt) (omega arith) in
-    let (name, found, whole) = c.in-ok-identifier.ensures cs is in
-    let named : marked name ≡ VOID → ⊥ = λ v. both_ways c.is-void.result c.if-is-void.false (c.is-void.ensures.1 (whole ∙ v)) in
-    let more = c.in-ok-read-space.field-0.now in
-    ap read_identifier is ∙ identifier_found cs name c.in-ok-identifier.rest.now found more named (sym c.in-ok-read-space.ensures) ∙ (λ i. Some (Some (sym whole i), more))
+    let (name, found, whole) = c.in_ok-identifier-in-64.ensures cs is in
+    let named : marked name ≡ VOID → ⊥ = λ v. both_ways c.is_void.result c.if-is_void.false (c.is_void.ensures.1 (whole ∙ v)) in
+    let more = c.in_ok-read_space-in-64.field-0.now in
+    ap read_identifier is ∙ identifier_found cs name c.in_ok-identifier-in-64.rest.now found more named (sym c.in_ok-read_space-in-64.ensures) ∙ (λ i. Some (Some (sym whole i), more))

@@ -7,24 +7,24 @@ use Rattle.lines.specs.Shown.{ReadsValue}
 use Rattle.lines.proofs.Readers.{pointer_none, pointer_followed, pointer_void, pointer_found}
 use Rattle.lines.proofs.line.read_pointer.Goals as goal
 
-pub returns-in-err-pointer : goal.returns-in-err-pointer
-returns-in-err-pointer c cs is other = subst (ReadsValue read_marked cs) (sym c.from-residual.ensures) (pointer_none cs other (c.in-err-pointer.ensures cs is))
+pub returns-in_err-pointer : goal.returns-in_err-pointer
+returns-in_err-pointer c cs is other = subst (ReadsValue read_marked cs) (sym c.from_residual.ensures) (pointer_none cs other (c.in_err-pointer.ensures cs is))
 
-pub returns-then-not-is-empty : goal.returns-then-not-is-empty
-returns-then-not-is-empty c cs is other =
-    let (name, found, whole) = c.in-ok-pointer.ensures cs is in
-    let e = c.if-not-is-empty.ensures in
-    pointer_followed cs other name c.in-ok-pointer.rest.now found (λ z. grind (arith, nat_tests))
+pub returns-then-not-is_empty : goal.returns-then-not-is_empty
+returns-then-not-is_empty c cs is other =
+    let (name, found, whole) = c.in_ok-pointer.ensures cs is in
+    let e = c.if-not-is_empty.ensures in
+    pointer_followed cs other name c.in_ok-pointer.rest.now found (λ z. grind (arith, nat_tests))
 
-pub returns-then-is-void : goal.returns-then-is-void
-returns-then-is-void c cs is other =
-    let (name, found, whole) = c.in-ok-pointer.ensures cs is in
-    let e = c.if-not-is-empty.ensures in
-    pointer_void cs other name c.in-ok-pointer.rest.now found (grind (arith, nat_tests)) (sym whole ∙ c.is-void.ensures.0 c.if-is-void.true)
+pub returns-then-is_void : goal.returns-then-is_void
+returns-then-is_void c cs is other =
+    let (name, found, whole) = c.in_ok-pointer.ensures cs is in
+    let e = c.if-not-is_empty.ensures in
+    pointer_void cs other name c.in_ok-pointer.rest.now found (grind (arith, nat_tests)) (sym whole ∙ c.is_void.ensures.0 c.if-is_void.true)
 
-pub returns-else-is-void : goal.returns-else-is-void
-returns-else-is-void c cs is other =
-    let (name, found, whole) = c.in-ok-pointer.ensures cs is in
-    let e = c.if-not-is-empty.ensures in
-    let named : marked name ≡ VOID → ⊥ = λ v. both_ways c.is-void.result c.if-is-void.false (c.is-void.ensures.1 (whole ∙ v)) in
-    pointer_found cs other name c.in-ok-pointer.rest.now found (grind (arith, nat_tests)) named ∙ (λ i. Some (pointer (sym whole i)))
+pub returns-else-is_void : goal.returns-else-is_void
+returns-else-is_void c cs is other =
+    let (name, found, whole) = c.in_ok-pointer.ensures cs is in
+    let e = c.if-not-is_empty.ensures in
+    let named : marked name ≡ VOID → ⊥ = λ v. both_ways c.is_void.result c.if-is_void.false (c.is_void.ensures.1 (whole ∙ v)) in
+    pointer_found cs other name c.in_ok-pointer.rest.now found (grind (arith, nat_tests)) named ∙ (λ i. Some (pointer (sym whole i)))

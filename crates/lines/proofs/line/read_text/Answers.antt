@@ -14,20 +14,20 @@ plain : (bs : List ℕ) → false ≡ eqb (length bs) 0 → (get_or bs 0 0 ≡ 6
 plain [] e f = absurd (both_ways false refl e)
 plain (b ∷ bs) e f = text_plain b bs f
 
-pub returns-then-not-begins-with-at : goal.returns-then-not-begins-with-at
-returns-then-not-begins-with-at c = plain c.args.bytes.now c.if-is-empty.ensures (other c.begins-with-at.result _ c.begins-with-at.ensures c.if-not-begins-with-at.true)
+pub returns-then-not-begins_with_at : goal.returns-then-not-begins_with_at
+returns-then-not-begins_with_at c = plain c.args.bytes.now c.if-is_empty.ensures (other c.begins_with_at.result _ c.begins_with_at.ensures c.if-not-begins_with_at.true)
 
-pub returns-then-begins-with-at : goal.returns-then-begins-with-at
-returns-then-begins-with-at c =
+pub returns-then-begins_with_at : goal.returns-then-begins_with_at
+returns-then-begins_with_at c =
     let bs = c.args.bytes.now in
-    let (cs, is) = first_is 64 bs (lit< tt) (c.begins-with-at.ensures.0 c.if-not-begins-with-at.false) in
+    let (cs, is) = first_is 64 bs (lit< tt) (c.begins_with_at.ensures.0 c.if-not-begins_with_at.false) in
     let rest : take (length bs - 1) (drop 1 bs) ≡ cs = take_rest bs 1 ∙ ap (drop 1) is in
-    ap read_payload is ∙ text_marked cs (ap (λ xs. get_or xs 0 0) (sym rest) ∙ c.begins-with-at-2.ensures.0 c.if-begins-with-at.true) ∙ ap {B = Option Value} (λ xs. Some (text xs)) (sym rest)
+    ap read_payload is ∙ text_marked cs (ap (λ xs. get_or xs 0 0) (sym rest) ∙ c.begins_with_at-2.ensures.0 c.if-begins_with_at.true) ∙ ap {B = Option Value} (λ xs. Some (text xs)) (sym rest)
 
-pub returns-else-begins-with-at : goal.returns-else-begins-with-at
-returns-else-begins-with-at c =
+pub returns-else-begins_with_at : goal.returns-else-begins_with_at
+returns-else-begins_with_at c =
     let bs = c.args.bytes.now in
-    let (cs, is) = first_is 64 bs (lit< tt) (c.begins-with-at.ensures.0 c.if-not-begins-with-at.false) in
+    let (cs, is) = first_is 64 bs (lit< tt) (c.begins_with_at.ensures.0 c.if-not-begins_with_at.false) in
     let rest : take (length bs - 1) (drop 1 bs) ≡ cs = take_rest bs 1 ∙ ap (drop 1) is in
-    let one : get_or cs 0 0 ≡ 64 → ⊥ = λ e. other c.begins-with-at-2.result _ c.begins-with-at-2.ensures c.if-begins-with-at.false (ap (λ xs. get_or xs 0 0) rest ∙ e) in
-    subst (λ b. ReadsValue read_payload b c.read-pointer.result) (sym is) (c.read-pointer.ensures cs is one)
+    let one : get_or cs 0 0 ≡ 64 → ⊥ = λ e. other c.begins_with_at-2.result _ c.begins_with_at-2.ensures c.if-begins_with_at.false (ap (λ xs. get_or xs 0 0) rest ∙ e) in
+    subst (λ b. ReadsValue read_payload b c.read_pointer.result) (sym is) (c.read_pointer.ensures cs is one)

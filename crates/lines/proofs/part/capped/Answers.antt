@@ -12,8 +12,8 @@ more digits i n m h e f =
     let cut : number_of (take (i + 1) digits) ≡ number_from_digits 10 (map value (take i digits) ++ value (get_or digits i 0) ∷ []) = ap number_of (take_more digits i 0 h) ∙ ap (number_from_digits 10) (map-append value (take i digits) (get_or digits i 0 ∷ [])) in
     f ∙ ap (λ k. min 100 (k * 10 + (get_or digits i 0 - 48))) e ∙ sym (capped_push 100 (map value (take i digits)) (value (get_or digits i 0))) ∙ ap (min 100) (sym cut)
 
-pub overflow-mul-n : goal.overflow-mul-n
-overflow-mul-n c = let h = c.loop-d.invariant in omega arith
+pub overflow_mul-n : goal.overflow_mul-n
+overflow_mul-n c = let h = c.loop-d.invariant in omega arith
 
 pub loop-d-preserved : goal.loop-d-preserved
 loop-d-preserved c = more c.args.digits.now c.loop-d.d-index c.loop-d.n c.min-n.result c.loop-d-test.true c.loop-d.invariant (omega arith)

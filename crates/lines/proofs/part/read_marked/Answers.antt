@@ -17,8 +17,8 @@ returns-then-behind-n-eq64 c cs e =
     let is : n ≡ prefix_len tag_char cs = c.run-n.ensures.value ∙ ap (prefix_len tag_char) b in
     let h : n < length cs = subst (λ xs. n < length xs) b c.if-n-behind.true in
     let at : get_or cs n 0 ≡ 64 = ap (λ xs. get_or xs n 0) (sym b) ∙ c.if-behind-n-eq64.true in
-    let rest : drop (n + 1) cs ≡ c.split-at.result.1.now = sym (marked_rest cs n) ∙ ap (drop (n + 2)) (sym e) ∙ sym c.split-at.ensures.back in
-    (take n cs, name_found cs n is c.if-n-gt0.true h at ∙ (λ i. Rattle.std.specs.declared.option.Option.TheVariants.Some (take n cs, rest i)), c.split-at.ensures.front ∙ ap (take (n + 2)) e ∙ marked_front cs n h at)
+    let rest : drop (n + 1) cs ≡ c.split_at.result.1.now = sym (marked_rest cs n) ∙ ap (drop (n + 2)) (sym e) ∙ sym c.split_at.ensures.back in
+    (take n cs, name_found cs n is c.if-n-gt0.true h at ∙ (λ i. Rattle.std.specs.declared.option.Option.TheVariants.Some (take n cs, rest i)), c.split_at.ensures.front ∙ ap (take (n + 2)) e ∙ marked_front cs n h at)
 
 pub returns-else-n-gt0 : goal.returns-else-n-gt0
 returns-else-n-gt0 c cs e =

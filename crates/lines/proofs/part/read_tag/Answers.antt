@@ -19,18 +19,18 @@ left bs n e is =
     ap {B = Option (List ℕ × List ℕ)} (λ k. cond (is_tag (take k bs)) (Some (take k bs, drop k bs)) None) (sym e)
     ∙ ap {B = Option (List ℕ × List ℕ)} (λ t. cond t (Some (take n bs, drop n bs)) None) is
 
-pub returns-then-is-tag : goal.returns-then-is-tag
-returns-then-is-tag c =
+pub returns-then-is_tag : goal.returns-then-is_tag
+returns-then-is_tag c =
     let bs = c.args.bytes.now in
     let n = c.run.result in
-    let front = c.split-at.ensures.front in
+    let front = c.split_at.ensures.front in
     let all = subst (λ t. tag_chars t ≡ true) (sym front) (characters bs n c.run.ensures.value) in
-    taken bs c.split-at.result.0.now c.split-at.result.1.now n c.run.ensures.value front c.split-at.ensures.back (subst (λ t. is_tag t ≡ true) front (sym (c.is-tag.ensures all) ∙ c.if-is-tag.true))
+    taken bs c.split_at.result.0.now c.split_at.result.1.now n c.run.ensures.value front c.split_at.ensures.back (subst (λ t. is_tag t ≡ true) front (sym (c.is_tag.ensures all) ∙ c.if-is_tag.true))
 
-pub returns-else-is-tag : goal.returns-else-is-tag
-returns-else-is-tag c =
+pub returns-else-is_tag : goal.returns-else-is_tag
+returns-else-is_tag c =
     let bs = c.args.bytes.now in
     let n = c.run.result in
-    let front = c.split-at.ensures.front in
+    let front = c.split_at.ensures.front in
     let all = subst (λ t. tag_chars t ≡ true) (sym front) (characters bs n c.run.ensures.value) in
-    left bs n c.run.ensures.value (subst (λ t. is_tag t ≡ false) front (sym (c.is-tag.ensures all) ∙ c.if-is-tag.false))
+    left bs n c.run.ensures.value (subst (λ t. is_tag t ≡ false) front (sym (c.is_tag.ensures all) ∙ c.if-is_tag.false))

@@ -12,8 +12,8 @@ use Rattle.lines.proofs.rules.scan.Goals as goal
 pub loop-found-init : goal.loop-found-init
 loop-found-init c = (c.new-cursor.ensures.file, start c.args.file.now c.new-cursor.result.at c.new-scan.result c.requires.clean c.new-cursor.ensures.start.0 c.new-scan.ensures)
 
-pub overflow-add-result : goal.overflow-add-result
-overflow-add-result c =
+pub overflow_add-result : goal.overflow_add-result
+overflow_add-result c =
     let low = few c.args.file.now c.loop-found.cursor.at c.loop-found.scan c.requires.short c.requires.clean c.loop-found.invariant.1 in
     let within = c.loop-found.cursor.within in
     let same = ap length c.loop-found.invariant.0 in

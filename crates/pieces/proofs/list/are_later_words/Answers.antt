@@ -14,13 +14,13 @@ last : (p : List ℕ → Bool) (t first word : List ℕ) (r : Bool) → first �
 last p t first word r is l e asked = asked ∙ ap p l ∙ sym (later_last p t first is e)
 
 pub returns-then-not-member : goal.returns-then-not-member
-returns-then-not-member g c = sym (sym c.loop-behind.invariant ∙ turn ((g.B.Book.meaning c.args.book.now).member c.args.set) c.loop-behind.rest.now c.cut-at.result.0.now c.left-trimmed-word.result.now c.right-trimmed.result.now c.in-Some.behind.now c.member.result false c.cut-at.ensures.first c.left-trimmed-word.ensures c.right-trimmed.ensures (sym (ap (option_map (λ x. x.now)) c.in-Some.is) ∙ c.cut-at.ensures.rest) c.member.ensures c.if-not-member.true)
+returns-then-not-member g c = sym (sym c.loop-behind.invariant ∙ turn ((g.B.Book.meaning c.args.book.now).member c.args.set) c.loop-behind.rest.now c.cut_at.result.0.now c.left_trimmed-word.result.now c.right_trimmed.result.now c.in-Some.behind.now c.member.result false c.cut_at.ensures.first c.left_trimmed-word.ensures c.right_trimmed.ensures (sym (ap (option_map (λ x. x.now)) c.in-Some.is) ∙ c.cut_at.ensures.rest) c.member.ensures c.if-not-member.true)
 
 pub loop-behind-smaller : goal.loop-behind-smaller
-loop-behind-smaller g c = behind_length 44 c.loop-behind.rest.now c.in-Some.behind.now (sym c.cut-at.ensures.rest ∙ ap (option_map (λ x. x.now)) c.in-Some.is)
+loop-behind-smaller g c = behind_length 44 c.loop-behind.rest.now c.in-Some.behind.now (sym c.cut_at.ensures.rest ∙ ap (option_map (λ x. x.now)) c.in-Some.is)
 
 pub loop-behind-preserved : goal.loop-behind-preserved
-loop-behind-preserved g c = sym (turn ((g.B.Book.meaning c.args.book.now).member c.args.set) c.loop-behind.rest.now c.cut-at.result.0.now c.left-trimmed-word.result.now c.right-trimmed.result.now c.in-Some.behind.now c.member.result true c.cut-at.ensures.first c.left-trimmed-word.ensures c.right-trimmed.ensures (sym (ap (option_map (λ x. x.now)) c.in-Some.is) ∙ c.cut-at.ensures.rest) c.member.ensures c.if-not-member.false) ∙ c.loop-behind.invariant
+loop-behind-preserved g c = sym (turn ((g.B.Book.meaning c.args.book.now).member c.args.set) c.loop-behind.rest.now c.cut_at.result.0.now c.left_trimmed-word.result.now c.right_trimmed.result.now c.in-Some.behind.now c.member.result true c.cut_at.ensures.first c.left_trimmed-word.ensures c.right_trimmed.ensures (sym (ap (option_map (λ x. x.now)) c.in-Some.is) ∙ c.cut_at.ensures.rest) c.member.ensures c.if-not-member.false) ∙ c.loop-behind.invariant
 
 pub returns-in-None : goal.returns-in-None
-returns-in-None g c = last ((g.B.Book.meaning c.args.book.now).member c.args.set) c.loop-behind.rest.now c.cut-at.result.0.now c.left-trimmed-word.result.now c.member-in-None.result c.cut-at.ensures.first c.left-trimmed-word.ensures (sym (ap (option_map (λ x. x.now)) c.in-None.is) ∙ c.cut-at.ensures.rest) c.member-in-None.ensures ∙ c.loop-behind.invariant
+returns-in-None g c = last ((g.B.Book.meaning c.args.book.now).member c.args.set) c.loop-behind.rest.now c.cut_at.result.0.now c.left_trimmed-word.result.now c.member-in-None.result c.cut_at.ensures.first c.left_trimmed-word.ensures (sym (ap (option_map (λ x. x.now)) c.in-None.is) ∙ c.cut_at.ensures.rest) c.member-in-None.ensures ∙ c.loop-behind.invariant

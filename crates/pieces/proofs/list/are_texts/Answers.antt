@@ -11,23 +11,23 @@ several t first rest is e = ap are_texts (cut_more 44 t rest e ∙ ap (λ w. w �
 one : (t first : List ℕ) → first ≡ piece 44 t → None ≡ behind 44 t → are_texts (cut 44 t) ≡ (not (starts_blank first) && not (ends_blank first))
 one t first is e = ap are_texts (cut_last 44 t e ∙ ap (λ w. w ∷ []) (sym is))
 
-pub returns-then-begins-well : goal.returns-then-begins-well
-returns-then-begins-well c =
-    let e = several c.args.text.now c.cut-at.result.0.now c.in-Some.rest.now c.cut-at.ensures.first (sym (ap (option_map (λ x. x.now)) c.in-Some.is) ∙ c.cut-at.ensures.rest) in
-    let l = c.last-piece.ensures in
+pub returns-then-begins_well : goal.returns-then-begins_well
+returns-then-begins_well c =
+    let e = several c.args.text.now c.cut_at.result.0.now c.in-Some.rest.now c.cut_at.ensures.first (sym (ap (option_map (λ x. x.now)) c.in-Some.is) ∙ c.cut_at.ensures.rest) in
+    let l = c.last_piece.ensures in
     search rules
 
-pub returns-else-begins-well : goal.returns-else-begins-well
-returns-else-begins-well c =
-    let e = several c.args.text.now c.cut-at.result.0.now c.in-Some.rest.now c.cut-at.ensures.first (sym (ap (option_map (λ x. x.now)) c.in-Some.is) ∙ c.cut-at.ensures.rest) in
+pub returns-else-begins_well : goal.returns-else-begins_well
+returns-else-begins_well c =
+    let e = several c.args.text.now c.cut_at.result.0.now c.in-Some.rest.now c.cut_at.ensures.first (sym (ap (option_map (λ x. x.now)) c.in-Some.is) ∙ c.cut_at.ensures.rest) in
     search rules
 
-pub returns-then-not-starts-blank : goal.returns-then-not-starts-blank
-returns-then-not-starts-blank c =
-    let e = one c.args.text.now c.cut-at.result.0.now c.cut-at.ensures.first (sym (ap (option_map (λ x. x.now)) c.in-None.is) ∙ c.cut-at.ensures.rest) in
+pub returns-then-not-starts_blank : goal.returns-then-not-starts_blank
+returns-then-not-starts_blank c =
+    let e = one c.args.text.now c.cut_at.result.0.now c.cut_at.ensures.first (sym (ap (option_map (λ x. x.now)) c.in-None.is) ∙ c.cut_at.ensures.rest) in
     search rules
 
-pub returns-else-not-starts-blank : goal.returns-else-not-starts-blank
-returns-else-not-starts-blank c =
-    let e = one c.args.text.now c.cut-at.result.0.now c.cut-at.ensures.first (sym (ap (option_map (λ x. x.now)) c.in-None.is) ∙ c.cut-at.ensures.rest) in
+pub returns-else-not-starts_blank : goal.returns-else-not-starts_blank
+returns-else-not-starts_blank c =
+    let e = one c.args.text.now c.cut_at.result.0.now c.cut_at.ensures.first (sym (ap (option_map (λ x. x.now)) c.in-None.is) ∙ c.cut_at.ensures.rest) in
     search rules

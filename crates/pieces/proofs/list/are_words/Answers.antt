@@ -9,10 +9,10 @@ several : (p : List ℕ → Bool) (t first trimmed rest : List ℕ) (r s : Bool)
 several p t first trimmed rest r s is k e asked e' = sym (words_more p t first is rest e ∙ ap (λ b. b && later_pass p (cut 44 rest)) (sym (asked ∙ ap p k) ∙ e'))
 
 pub returns-then-member : goal.returns-then-member
-returns-then-member g c = c.are-later-words.ensures ∙ several ((g.B.Book.meaning c.args.book.now).member c.args.set) c.args.text.now c.cut-at.result.0.now c.right-trimmed.result.now c.in-Some.rest.now c.member.result true c.cut-at.ensures.first c.right-trimmed.ensures (sym (ap (option_map (λ x. x.now)) c.in-Some.is) ∙ c.cut-at.ensures.rest) c.member.ensures c.if-member.true
+returns-then-member g c = c.are_later_words.ensures ∙ several ((g.B.Book.meaning c.args.book.now).member c.args.set) c.args.text.now c.cut_at.result.0.now c.right_trimmed.result.now c.in-Some.rest.now c.member.result true c.cut_at.ensures.first c.right_trimmed.ensures (sym (ap (option_map (λ x. x.now)) c.in-Some.is) ∙ c.cut_at.ensures.rest) c.member.ensures c.if-member.true
 
 pub returns-else-member : goal.returns-else-member
-returns-else-member g c = c.if-member.false ∙ several ((g.B.Book.meaning c.args.book.now).member c.args.set) c.args.text.now c.cut-at.result.0.now c.right-trimmed.result.now c.in-Some.rest.now c.member.result false c.cut-at.ensures.first c.right-trimmed.ensures (sym (ap (option_map (λ x. x.now)) c.in-Some.is) ∙ c.cut-at.ensures.rest) c.member.ensures c.if-member.false
+returns-else-member g c = c.if-member.false ∙ several ((g.B.Book.meaning c.args.book.now).member c.args.set) c.args.text.now c.cut_at.result.0.now c.right_trimmed.result.now c.in-Some.rest.now c.member.result false c.cut_at.ensures.first c.right_trimmed.ensures (sym (ap (option_map (λ x. x.now)) c.in-Some.is) ∙ c.cut_at.ensures.rest) c.member.ensures c.if-member.false
 
 pub returns-in-None : goal.returns-in-None
-returns-in-None g c = c.member-in-None.ensures ∙ sym (words_last ((g.B.Book.meaning c.args.book.now).member c.args.set) c.args.text.now c.cut-at.result.0.now c.cut-at.ensures.first (sym (ap (option_map (λ x. x.now)) c.in-None.is) ∙ c.cut-at.ensures.rest))
+returns-in-None g c = c.member-in-None.ensures ∙ sym (words_last ((g.B.Book.meaning c.args.book.now).member c.args.set) c.args.text.now c.cut_at.result.0.now c.cut_at.ensures.first (sym (ap (option_map (λ x. x.now)) c.in-None.is) ∙ c.cut_at.ensures.rest))

@@ -4,4 +4,4 @@ use Rattle.model.specs.Kinds.{left_trimmed}
 use Rattle.pieces.proofs.list.left_trimmed.Goals as goal
 
 pub returns : goal.returns
-returns c = let nil = nil_from_length c.loop-first.rest.now c.in-default.ensures.cases in nil ∙ sym (ap left_trimmed nil) ∙ c.loop-first.invariant
+returns c = let nil = nil_from_length c.loop-first.rest.now c.in_default.ensures.cases in nil ∙ sym (ap left_trimmed nil) ∙ c.loop-first.invariant

@@ -16,4 +16,4 @@ loop-last-preserved c =
     sym (right_trimmed_space c.in-Some.before.now) ∙ sym (ap right_trimmed are) ∙ c.loop-last.invariant
 
 pub returns : goal.returns
-returns c = let nil = nil_from_length c.loop-last.rest.now c.in-default.ensures.cases in nil ∙ sym (ap right_trimmed nil) ∙ c.loop-last.invariant
+returns c = let nil = nil_from_length c.loop-last.rest.now c.in_default.ensures.cases in nil ∙ sym (ap right_trimmed nil) ∙ c.loop-last.invariant

@@ -7,11 +7,11 @@ use Rattle.pieces.proofs.plain.are_digits.Goals as goal
 asks : Asks all_digits is_ascii_digit
 asks = record { none = refl; more = λ c cs. refl }
 
-pub returns-then-not-is-ascii-digit : goal.returns-then-not-is-ascii-digit
-returns-then-not-is-ascii-digit c = sym (c.loop-c.invariant ∙ stopped all_digits is_ascii_digit asks c.args.text.now c.loop-c.c-index c.loop-c-test.true (sym c.if-not-is-ascii-digit.ensures.value))
+pub returns-then-not-is_ascii_digit : goal.returns-then-not-is_ascii_digit
+returns-then-not-is_ascii_digit c = sym (c.loop-c.invariant ∙ stopped all_digits is_ascii_digit asks c.args.text.now c.loop-c.c-index c.loop-c-test.true (sym c.if-not-is_ascii_digit.ensures.value))
 
 pub loop-c-preserved : goal.loop-c-preserved
-loop-c-preserved c = c.loop-c.invariant ∙ passed all_digits is_ascii_digit asks c.args.text.now c.loop-c.c-index c.loop-c-test.true (sym c.if-not-is-ascii-digit.ensures.value)
+loop-c-preserved c = c.loop-c.invariant ∙ passed all_digits is_ascii_digit asks c.args.text.now c.loop-c.c-index c.loop-c-test.true (sym c.if-not-is_ascii_digit.ensures.value)
 
 pub returns : goal.returns
 returns c = sym (c.loop-c.invariant ∙ ended all_digits is_ascii_digit asks c.args.text.now c.loop-c.c-index c.loop-c-test.false)

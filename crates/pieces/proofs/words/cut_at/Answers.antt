@@ -5,18 +5,18 @@ use Rattle.pieces.proofs.words.cut_at.Goals as goal
 pub returns-then-end-text : goal.returns-then-end-text
 returns-then-end-text c =
     let t = c.args.text.now in
-    let e = c.place-of-end.result in
+    let e = c.place_of-end.result in
     let whole : e - 0 ≡ e = omega arith in
     record {
-      first = ap (λ n. take n t) whole ∙ before_it c.args.byte t e c.place-of-end.ensures;
-      rest = behind_it c.args.byte t e c.place-of-end.ensures c.if-end-text.true;
+      first = ap (λ n. take n t) whole ∙ before_it c.args.byte t e c.place_of-end.ensures;
+      rest = behind_it c.args.byte t e c.place_of-end.ensures c.if-end-text.true;
     }
 
 pub returns-else-end-text : goal.returns-else-end-text
 returns-else-end-text c =
     let t = c.args.text.now in
-    let e = c.place-of-end.result in
+    let e = c.place_of-end.result in
     record {
-      first = all_before c.args.byte t e c.place-of-end.ensures c.if-end-text.false;
-      rest = none_behind c.args.byte t e c.place-of-end.ensures c.if-end-text.false;
+      first = all_before c.args.byte t e c.place_of-end.ensures c.if-end-text.false;
+      rest = none_behind c.args.byte t e c.place_of-end.ensures c.if-end-text.false;
     }

@@ -6,8 +6,8 @@ use Rattle.books.proofs.home.HomeBook.needs.Goals.{then-required, else-required}
 pub loop-times-init : goal.loop-times-init
 loop-times-init c = (omega arith, λ k. omega arith)
 
-pub overflow-add-count : goal.overflow-add-count
-overflow-add-count c = omega arith
+pub overflow_add-count : goal.overflow_add-count
+overflow_add-count c = omega arith
 
 pub loop-times-preserved : goal.loop-times-preserved
 loop-times-preserved c =

@@ -20,5 +20,5 @@ start file rest (inr (none, same)) =
 pub returns : goal.returns
 returns c =
     let file = c.args.file.now in
-    let at = start file c.without-mark.result.now c.without-mark.ensures in
+    let at = start file c.without_mark.result.now c.without_mark.ensures in
     record { file = refl; start = (at, refl); begins = λ clean. (turn_start file 0 _ (last_with 0 false false) false (spot 0 0) (is_marked file) clean refl at).scanned }

@@ -14,7 +14,7 @@ pub returns-in-None : goal.returns-in-None
 returns-in-None c =
     let file = c.args.self.now.file.now in
     let at = c.args.self.now.at in
-    let none : NoLineAt file at = (omega arith, inl (ap parse (cut file at c.line-end-end.result c.line-end-end.ensures.value) ∙ c.in-None.ensures.parsed)) in
+    let none : NoLineAt file at = (omega arith, inl (ap parse (cut file at c.line_end-end.result c.line_end-end.ensures.value) ∙ c.in-None.ensures.parsed)) in
     record { file = refl; steps = (none, (refl, refl)); given = λ ps s n. broken_given file at ps none s }
 
 pub returns-then-self : goal.returns-then-self
@@ -24,7 +24,7 @@ pub returns-then-end-self : goal.returns-then-end-self
 returns-then-end-self c =
     let file = c.args.self.now.file.now in
     let at = c.args.self.now.at in
-    let end = c.line-end-end.ensures.value in
+    let end = c.line_end-end.ensures.value in
     let none : NoLineAt file at = (omega arith, inr (omega arith)) in
     record { file = refl; steps = (none, (refl, refl)); given = λ ps s n. broken_given file at ps none s }
 
@@ -35,17 +35,17 @@ pub returns-in-Some : goal.returns-in-Some
 returns-in-Some c =
     let file = c.args.self.now.file.now in
     let at = c.args.self.now.at in
-    let end = c.line-end-end.ensures in
+    let end = c.line_end-end.ensures in
     let (line, is, shows) = c.in-Some.ensures.parsed in
-    let comes : Comes file at c.args.self.now.lines c.next-line-self.result (c.args.self.now.lines + 1) _ = record {
+    let comes : Comes file at c.args.self.now.lines c.next_line-self.result (c.args.self.now.lines + 1) _ = record {
       line = line;
-      spelled = ap parse (cut file at c.line-end-end.result end.value) ∙ is;
-      ended = ended file at c.line-end-end.result end.value end.bounds.1 c.if-end-self.false;
+      spelled = ap parse (cut file at c.line_end-end.result end.value) ∙ is;
+      ended = ended file at c.line_end-end.result end.value end.bounds.1 c.if-end-self.false;
       shows = shows;
       number = refl;
       byte = refl;
-      bytes = sym (cut file at c.line-end-end.result end.value);
-      next_at = c.next-line-self.ensures.value ∙ ap (next_line file) end.value;
+      bytes = sym (cut file at c.line_end-end.result end.value);
+      next_at = c.next_line-self.ensures.value ∙ ap (next_line file) end.value;
       next_number = refl;
     } in
-    record { file = refl; steps = comes; given = λ ps s n. line_given file at c.args.self.now.lines c.next-line-self.result (c.args.self.now.lines + 1) _ ps comes s n }
+    record { file = refl; steps = comes; given = λ ps s n. line_given file at c.args.self.now.lines c.next_line-self.result (c.args.self.now.lines + 1) _ ps comes s n }

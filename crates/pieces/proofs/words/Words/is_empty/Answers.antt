@@ -10,4 +10,4 @@ ended None r e = not-false r (sym e)
 ended (Some t) r e = not-true r (sym e) ∙ sym (ap no_more (cut_step 32 t.now))
 
 pub returns : goal.returns
-returns c = ended c.args.self.rest c.is-none.result c.is-none.ensures
+returns c = ended c.args.self.rest c.is_none.result c.is_none.ensures
