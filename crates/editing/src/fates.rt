@@ -46,7 +46,7 @@ fn is_nothing(content: Content<'_>) -> bool
 
 // Whether a structure without substructures is bare, and not excused for it.
 fn is_bare<B: Book, E: Entries>(book: &B, entries: &E, structure: Structure) -> bool
-    ensures { (b : List Entry) → shows entries.now b → structure.card < length b → result ≡ bare_by (B.meaning book.now) structure.row (slice_index_or b structure.card no_entry).payload }
+    ensures { (b : List Entry) → E.shows entries.now b → structure.card < length b → result ≡ bare_by (B.meaning book.now) structure.row (slice_index_or b structure.card no_entry).payload }
 {
     is_nothing(entries.content(structure.card)) && !is_excused(book, structure.row)
 }
@@ -59,7 +59,7 @@ fn must_stay<B: Book, E: Entries>(
     siblings: Siblings,
     row: Row,
 ) -> bool
-    ensures { (b : List Entry) → shows entries.now b → count ≡ length b → result ≡ stays row (types_in (B.meaning book.now) b siblings) }
+    ensures { (b : List Entry) → E.shows entries.now b → count ≡ length b → result ≡ stays row (types_in (B.meaning book.now) b siblings) }
 {
     row.required && count_typed(book, entries, count, siblings, row.typed) == 1
 }
@@ -72,7 +72,7 @@ pub fn remove_one<B: Book, E: Entries>(
     siblings: Siblings,
     structure: Structure,
 ) -> Edit
-    ensures { (b : List Entry) → shows entries.now b → count ≡ length b → result ≡ first_by (B.meaning book.now) structure.row (types_in (B.meaning book.now) b siblings) structure.card structure.stop }
+    ensures { (b : List Entry) → E.shows entries.now b → count ≡ length b → result ≡ first_by (B.meaning book.now) structure.row (types_in (B.meaning book.now) b siblings) structure.card structure.stop }
 {
     let Structure { row, card, stop } = structure;
     let Some(row) = row else {
@@ -97,7 +97,7 @@ pub fn raise<B: Book, E: Entries>(
     below: Edit,
 ) -> Edit
     requires { structure.card < structure.stop }
-    ensures { (b : List Entry) → shows entries.now b → count ≡ length b → structure.card < count → result ≡ raised_by (B.meaning book.now) structure.row (types_in (B.meaning book.now) b siblings) (slice_index_or b structure.card no_entry).payload structure.card structure.stop below }
+    ensures { (b : List Entry) → E.shows entries.now b → count ≡ length b → structure.card < count → result ≡ raised_by (B.meaning book.now) structure.row (types_in (B.meaning book.now) b siblings) (slice_index_or b structure.card no_entry).payload structure.card structure.stop below }
 {
     let Edit::Deleted(from, to) = below else {
         return below;

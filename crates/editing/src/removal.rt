@@ -30,7 +30,7 @@ fn edit_row<B: Book, E: Entries>(
     start: usize,
     card: usize,
 ) -> Edit
-    ensures { (b : List Entry) → shows entries.now b → count ≡ length b → result ≡ edit_from (B.meaning book.now) b siblings start card }
+    ensures { (b : List Entry) → E.shows entries.now b → count ≡ length b → result ≡ edit_from (B.meaning book.now) b siblings start card }
 {
     let mut at = start;
     while at < count {
@@ -65,7 +65,7 @@ fn edit_row<B: Book, E: Entries>(
 // What the removal of a card does to the cards of a tree. The header, whose card is the first, stays whatever goes below
 // it, so its substructures are a row of their own.
 pub fn edit<B: Book, E: Entries>(book: &B, entries: &E, card: usize) -> Edit
-    ensures { (d : Dataset) → shows entries.now (body (entries_of d)) → result ≡ edit_of (B.meaning book.now) d card }
+    ensures { (d : Dataset) → E.shows entries.now (body (entries_of d)) → result ≡ edit_of (B.meaning book.now) d card }
 {
     let count = entries.count();
     let header_end = block_end(entries, count, 0, 1);

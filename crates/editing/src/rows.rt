@@ -21,7 +21,7 @@ pub struct Siblings {
 // Where the cards below one of this level end, of those from a position on.
 pub fn block_end<E: Entries>(entries: &E, count: usize, level: usize, from: usize) -> usize
     ensures low { from ≤ result }
-    ensures ends { (b : List Entry) → shows entries.now b → count ≡ length b → result ≡ from + block level (drop from b) }
+    ensures ends { (b : List Entry) → E.shows entries.now b → count ≡ length b → result ≡ from + block level (drop from b) }
 {
     let mut at = from;
     while at < count && entries.level(at) as usize > level {
@@ -47,7 +47,7 @@ pub fn count_typed<B: Book, E: Entries>(
     siblings: Siblings,
     typed: u16,
 ) -> usize
-    ensures { (b : List Entry) → shows entries.now b → count ≡ length b → result ≡ how_many (Some typed) (types_in (B.meaning book.now) b siblings) }
+    ensures { (b : List Entry) → E.shows entries.now b → count ≡ length b → result ≡ how_many (Some typed) (types_in (B.meaning book.now) b siblings) }
 {
     let mut found = 0;
     for at in siblings.first..count {

@@ -23,7 +23,7 @@ pub enum CardRule {
 // Whether the payload is of its kind.
 fn is_taken<B: Book, E: Entries>(book: &B, entries: &E, marks: &[Mark], i: usize) -> bool
     requires { i < length marks.now }
-    ensures { Tests (B.meaning book.now) (shows entries.now) marks.now taken i result }
+    ensures { Tests (B.meaning book.now) (E.shows entries.now) marks.now taken i result }
 {
     takes(book, book.kind(marks[i].row.typed), entries.content(i))
 }
@@ -37,7 +37,7 @@ fn is_of_type(marks: &[Mark], i: usize, typed: u16) -> bool
 // Whether a pointer of a pointer kind names a record of the type that the kind asks for.
 fn is_aimed<B: Book, E: Entries>(book: &B, entries: &E, marks: &[Mark], i: usize) -> bool
     requires { i < length marks.now }
-    ensures { Tests (B.meaning book.now) (shows entries.now) marks.now aimed_right i result }
+    ensures { Tests (B.meaning book.now) (E.shows entries.now) marks.now aimed_right i result }
 {
     let Kind::Pointer(typed) = book.kind(marks[i].row.typed) else {
         return true;
@@ -59,7 +59,7 @@ fn is_leaf(marks: &[Mark], i: usize) -> bool
 // Whether a card has neither payload nor substructure.
 fn is_bare<E: Entries>(entries: &E, marks: &[Mark], i: usize) -> bool
     requires { i < length marks.now }
-    ensures { (m : Meaning) (b : List Entry) → shows entries.now b → Marked m b marks.now → Decides result (BareAt b i) }
+    ensures { (m : Meaning) (b : List Entry) → E.shows entries.now b → Marked m b marks.now → Decides result (BareAt b i) }
 {
     is_leaf(marks, i) && matches!(entries.content(i), Content::Nothing)
 }
@@ -67,7 +67,7 @@ fn is_bare<E: Entries>(entries: &E, marks: &[Mark], i: usize) -> bool
 // Whether a structure other than the header holds something, or is one that may stand empty.
 fn is_filled<B: Book, E: Entries>(book: &B, entries: &E, marks: &[Mark], i: usize) -> bool
     requires { i < length marks.now }
-    ensures { Tests (B.meaning book.now) (shows entries.now) marks.now filled i result }
+    ensures { Tests (B.meaning book.now) (E.shows entries.now) marks.now filled i result }
 {
     let row = marks[i].row;
     i == 0 || !is_bare(entries, marks, i) || row.required && may_be_emptied(book.kind(row.typed))
@@ -81,7 +81,7 @@ fn keeps<B: Book, E: Entries>(
     i: usize,
 ) -> bool
     requires { i < length marks.now }
-    ensures { Tests (B.meaning book.now) (shows entries.now) marks.now (book_rule rule) i result }
+    ensures { Tests (B.meaning book.now) (E.shows entries.now) marks.now (book_rule rule) i result }
 {
     match rule {
         CardRule::Taken => is_taken(book, entries, marks, i),
@@ -97,7 +97,7 @@ pub fn first_breaking<B: Book, E: Entries>(
     marks: &[Mark],
     rule: CardRule,
 ) -> Option<usize>
-    ensures { (b : List Entry) → shows entries.now b → Marked (B.meaning book.now) b marks.now → FirstOf (KeepsAt (B.meaning book.now) b (book_rule rule)) (length b) result }
+    ensures { (b : List Entry) → E.shows entries.now b → Marked (B.meaning book.now) b marks.now → FirstOf (KeepsAt (B.meaning book.now) b (book_rule rule)) (length b) result }
 {
     for i in 0..marks.len() {
         if !keeps(book, entries, marks, rule, i) {

@@ -33,14 +33,14 @@ const DEEPEST: u8 = 63;
 // The level of a card, cut at the deepest that a tree has.
 fn level_of<E: Entries>(entries: &E, i: usize) -> u8
     ensures shallow { result ≤ 63 }
-    ensures level { (b : List Entry) → shows entries.now b → Levelled b → i < length b → result ≡ level_at b i }
+    ensures level { (b : List Entry) → E.shows entries.now b → Levelled b → i < length b → result ≡ level_at b i }
 {
     entries.level(i).min(DEEPEST)
 }
 
 // Marks every card, or finds the first whose tag has no row.
 pub fn mark_all<B: Book, E: Entries>(book: &B, entries: &E, marks: &mut [Mark]) -> Option<usize>
-    ensures rows { (b : List Entry) → shows entries.now b → Judgeable b → length b ≡ length marks.old → RowsOf (B.meaning book.now) b marks.new result }
+    ensures rows { (b : List Entry) → E.shows entries.now b → Judgeable b → length b ≡ length marks.old → RowsOf (B.meaning book.now) b marks.new result }
     ensures small { result ≡ None → AllSmall marks.new }
 {
     // of each level that is open

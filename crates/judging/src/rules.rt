@@ -14,7 +14,7 @@ use model::MOST;
 
 // Each rule is asked of every card before the next.
 fn judge_with<B: Book, E: Entries>(book: &B, entries: &E, marks: &mut [Mark]) -> Option<Finding>
-    ensures { (b : List Entry) → shows entries.now b → Judgeable b → length b ≡ length marks.old → Judged (B.meaning book.now) b result }
+    ensures { (b : List Entry) → E.shows entries.now b → Judgeable b → length b ≡ length marks.old → Judged (B.meaning book.now) b result }
 {
     if let Some(card) = mark_all(book, entries, marks) {
         return Some(Finding {
@@ -57,7 +57,7 @@ fn judge_with<B: Book, E: Entries>(book: &B, entries: &E, marks: &mut [Mark]) ->
 
 // The lowest rule of the book that a card breaks, and the first card that breaks it; none where every card keeps all.
 pub fn judge<B: Book, E: Entries>(book: &B, entries: &E) -> Option<Finding>
-    ensures { (b : List Entry) → shows entries.now b → Judgeable b → Judged (B.meaning book.now) b result }
+    ensures { (b : List Entry) → E.shows entries.now b → Judgeable b → Judged (B.meaning book.now) b result }
 {
     let mut marks = [Mark::BLANK; MOST];
     let count = entries.count().min(MOST);

@@ -22,7 +22,6 @@ pub record Comes (file : List ℕ) (at n at' n' : ℕ) (f : Found) : Type 0 wher
   pub shows : Shows f.line line
   pub number : f.number ≡ n + 1
   pub byte : f.byte ≡ at
-  pub bytes : f.bytes.now ≡ bytes_at file at
   pub next_at : at' ≡ next_line file (line_end file at)
   pub next_number : n' ≡ n + 1
 
@@ -37,6 +36,12 @@ abbrev pub Steps : List ℕ → ℕ → ℕ → ℕ → ℕ → Step → Type 0
 Steps file at n at' n' step.End = (length file ≤ at) × Stays at n at' n'
 Steps file at n at' n' step.Broken = NoLineAt file at × Stays at n at' n'
 Steps file at n at' n' (step.Line f) = Comes file at n at' n' f
+
+-- a line comes with its bytes, without its end
+abbrev pub BytesCome : List ℕ → ℕ → Step → Type 0
+BytesCome file at step.End = Unit {0}
+BytesCome file at step.Broken = Unit {0}
+BytesCome file at (step.Line f) = f.bytes.now ≡ bytes_at file at
 
 -- Of the file's lines ps are those before `at`: then there are no others, no line stands here, or p is the next, in its place.
 abbrev pub Gives : List ℕ → List Placed → ℕ → Step → Type 0

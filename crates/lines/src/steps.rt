@@ -3,7 +3,7 @@ ghost use Rattle.std.specs.Prelude.{◌≡◌, ◌<◌, ◌≤◌, List, [], len
 ghost use Rattle.model.specs.LineTurns.{Scanned, is_marked, line_end, next_line};
 ghost use Rattle.model.specs.Characters.{Clean};
 ghost use Rattle.model.specs.Files.{Placed};
-ghost use Rattle.lines.specs.Steps.{Steps, Gives};
+ghost use Rattle.lines.specs.Steps.{Steps, Gives, BytesCome};
 
 use crate::cursor::Cursor;
 use crate::line::{Line, parse};
@@ -68,6 +68,7 @@ impl<'a> Cursor<'a> {
         ensures file { self.new.file.now ≡ self.old.file.now }
         ensures steps { Steps self.old.file.now self.old.at self.old.lines self.new.at self.new.lines result }
         ensures given { (ps : List Placed) → Scanned self.old.file.now ps self.old.at → length ps ≡ self.old.lines → Gives self.old.file.now ps self.new.at result }
+        ensures bytes { BytesCome self.old.file.now self.old.at result }
     {
         if self.at >= self.file.len() {
             return Step::End;

@@ -21,7 +21,7 @@ use Rattle.model.proofs.LineTurns.{marked_decides}
 use Rattle.model.proofs.Refusing.{Front, lined_front}
 use Rattle.lines.specs.declared.steps.Found.{Found}
 use Rattle.lines.specs.Shown.{Shows}
-use Rattle.lines.specs.Steps.{Comes, NoLineAt}
+use Rattle.lines.specs.Steps.{bytes_at, Comes, NoLineAt}
 
 -- these lines, each good and with its end, are what stands from a byte on
 pub record Left (file : List ℕ) (from : ℕ) (rest : List Placed) : Type 0 where
@@ -127,8 +127,8 @@ pub left_shows : (file : List ℕ) (from n next n' : ℕ) (f : Found) (p : Place
 left_shows file from n next n' f p rest l c = subst (Shows f.line) (some_same c.line p.line (sym c.spelled ∙ left_parse file from p rest l)) c.shows
 
 -- its bytes are its spelling
-pub left_bytes : (file : List ℕ) (from n next n' : ℕ) (f : Found) (p : Placed) (rest : List Placed) → Left file from (p ∷ rest) → Comes file from n next n' f → f.bytes.now ≡ spell p.line
-left_bytes file from n next n' f p rest l c = c.bytes ∙ ap (front in_line) l.are ∙ front_spelled p (all_bytes rest) l.good.0
+pub left_bytes : (file : List ℕ) (from : ℕ) (f : Found) (p : Placed) (rest : List Placed) → Left file from (p ∷ rest) → f.bytes.now ≡ bytes_at file from → f.bytes.now ≡ spell p.line
+left_bytes file from f p rest l b = b ∙ ap (front in_line) l.are ∙ front_spelled p (all_bytes rest) l.good.0
 
 pub left_goes : (file : List ℕ) (from n next n' : ℕ) (f : Found) (p : Placed) (rest : List Placed) → Left file from (p ∷ rest) → Comes file from n next n' f → Left file next rest
 left_goes file from n next n' f p rest l c = subst (λ k. Left file k rest) (sym (c.next_at ∙ left_next file from p rest l)) (left_rest file from p rest l)

@@ -84,7 +84,7 @@ fn order(names: &mut [(&[u8], usize)])
     ensures shuffled { IsPermutation names.old names.new }
     ensures order { InOrder names.new }
 {
-    names.sort();
+    names.sort_unstable();
 }
 
 fn lesser(least: Option<usize>, repeated: bool, card: usize) -> Option<usize>

@@ -7,7 +7,7 @@ use Rattle.model.specs.Files.{Placed}
 use Rattle.model.specs.Refusals.{lines_of}
 use Rattle.model.proofs.Parts.{not_nil}
 use Rattle.lines.specs.declared.steps.Found.{Found}
-use Rattle.lines.specs.Steps.{Comes, NoLineAt}
+use Rattle.lines.specs.Steps.{bytes_at, Comes, NoLineAt}
 use Rattle.looking.proofs.Left.{Left, left_end, left_ended, left_stuck, left_comes, left_goes, left_shows, left_bytes}
 use Rattle.looking.proofs.Trailing.{Whole}
 use Rattle.lines.specs.Shown.{Shows}
@@ -23,12 +23,12 @@ pub before_start : (file : List ℕ) (from : ℕ) (ps : List Placed) (b : ℕ) (
 before_start file from ps b e w l = record { first = w.cut.line; own = w.own; rest = w.rest; left = subst (λ more. Left file from (w.cut.line ∷ more)) w.are l; line = w.line; reads = w.reads; whole = w.whole }
 
 -- and behind it
-pub own_comes : (file : List ℕ) (from n next n' : ℕ) (f : Found) (e : Entry) → Before file from e → Comes file from n next n' f → OwnOf f file next e
-own_comes file from n next n' f e b c =
+pub own_comes : (file : List ℕ) (from n next n' : ℕ) (f : Found) (e : Entry) → Before file from e → Comes file from n next n' f → f.bytes.now ≡ bytes_at file from → OwnOf f file next e
+own_comes file from n next n' f e b c bytes =
     let rest = b.own ++ b.rest in
     record {
       shows = subst (Shows f.line) b.line (left_shows file from n next n' f b.first rest b.left c);
-      spelled = left_bytes file from n next n' f b.first rest b.left c ∙ ap spell b.line;
+      spelled = left_bytes file from f b.first rest b.left bytes ∙ ap spell b.line;
       behind = record { own = b.own; rest = b.rest; left = left_goes file from n next n' f b.first rest b.left c; reads = b.reads; whole = b.whole };
     }
 
@@ -39,10 +39,10 @@ pub before_stuck : (file : List ℕ) (from : ℕ) (e : Entry) → Before file fr
 before_stuck file from e b h = left_stuck file from (b.first ∷ b.own ++ b.rest) b.left h
 
 -- how far a line takes a cursor
-pub comes_past : (file : List ℕ) (from n next n' : ℕ) (f : Found) → Comes file from n next n' f → from + length f.bytes.now + 1 ≤ next
-comes_past file from n next n' f c =
+pub comes_past : (file : List ℕ) (from n next n' : ℕ) (f : Found) → Comes file from n next n' f → f.bytes.now ≡ bytes_at file from → from + length f.bytes.now + 1 ≤ next
+comes_past file from n next n' f c bytes =
     let bs = drop from file in
-    let long : length f.bytes.now ≡ length (front in_line bs) = ap length c.bytes in
+    let long : length f.bytes.now ≡ length (front in_line bs) = ap length bytes in
     let on = c.next_at in
     let end = line_end file from in
     let past : end < next_line file end = cond_both (is_pair file end) (end + 2) (end + 1) (λ k. end < k) (λ q. omega arith) (λ q. omega arith) in
@@ -64,7 +64,7 @@ trails_end file from level texts t h =
 pub trails_stuck : (file : List ℕ) (from level : ℕ) (texts : List (List ℕ)) → Trails file from level texts → NoLineAt file from → ⊥
 trails_stuck file from level texts t h = left_stuck file from (t.own ++ t.rest) t.left h
 
-module _ (file : List ℕ) (from n next n' level : ℕ) (f : Found) (c : Comes file from n next n' f) where
+module _ (file : List ℕ) (from n next n' level : ℕ) (f : Found) (c : Comes file from n next n' f) (bytes : f.bytes.now ≡ bytes_at file from) where
   pub trails_next : (texts : List (List ℕ)) → Trails file from level texts → f.line.tag.now ≡ CONT → NextOf file next level texts f.bytes.now
   trails_next texts t tag = go t.own texts refl t.reads
     where
@@ -80,7 +80,7 @@ module _ (file : List ℕ) (from n next n' level : ℕ) (f : Found) (c : Comes f
             text = x;
             more = xs;
             are = refl;
-            spelled = left_bytes file from n next n' f o (own ++ t.rest) left c ∙ ap spell (head-eq_of_cons-eq reads);
+            spelled = left_bytes file from f o (own ++ t.rest) left bytes ∙ ap spell (head-eq_of_cons-eq reads);
             behind = record { own = own; rest = t.rest; left = left_goes file from n next n' f o (own ++ t.rest) left c; reads = tail-eq_of_cons-eq reads; whole = t.whole };
           }
 

@@ -38,7 +38,7 @@ returns-in-None c =
     let file = c.args.file.now in
     let at = c.loop-found.cursor.at in
     let line = other_comes file c.loop-found.cursor.file.now at _ _ _ c.in-Line.found c.loop-found.invariant.0 c.in-Line.ensures.steps in (
-      all_blank _ _ c.blank-from.ensures,
+      all_blank _ _ c.blank_from.ensures,
       λ ps p. filling_full file ps c.args.drawer.now at c.loop-found.cursor.lines c.loop-found.count c.loop-found.drawer c.in-Line.found _ _ c.put.new.drawer _ c.loop-found.auto.drawer (c.loop-found.invariant.1 ps p) line c.in-None.ensures refl,
     )
 
@@ -51,6 +51,6 @@ returns c ps p =
     let at = c.loop-found.cursor.at in
     let g = c.loop-found.invariant.1 ps p in
     elim c.match-step.branch [
-      | in-End w ↦ ends file c.loop-found.cursor.file.now at ps c.args.drawer.now c.loop-found.drawer c.blank-from-2.new.drawer c.loop-found.cursor.lines c.loop-found.count c.loop-found.invariant.0 w.in-End.ensures.steps.0 g c.blank-from-2.ensures
+      | in-End w ↦ ends file c.loop-found.cursor.file.now at ps c.args.drawer.now c.loop-found.drawer c.blank_from-2.new.drawer c.loop-found.cursor.lines c.loop-found.count c.loop-found.invariant.0 w.in-End.ensures.steps.0 g c.blank_from-2.ensures
       | in-Broken w ↦ absurd (left_stuck file at g.rest g.left (subst (λ f. NoLineAt f at) c.loop-found.invariant.0 w.in-Broken.ensures.steps.0))
     ]

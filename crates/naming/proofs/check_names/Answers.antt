@@ -18,11 +18,11 @@ returns-in-Some-lost c room ps s kept fit =
     let n = c.index-count.result in
     let table = c.index-count.new.table in
     let i = subst (IndexOf ps) (sym (from_start n table)) (c.index-count.ensures.index ps s) in
-    (names_apart room ps (take (n - 0) table) i kept None c.in-default.ensures, names_aimed room ps (take (n - 0) table) i kept (Some c.in-Some-lost.card) (c.in-Some-lost.ensures room ps s i kept))
+    (names_apart room ps (take (n - 0) table) i kept None c.in_default.ensures, names_aimed room ps (take (n - 0) table) i kept (Some c.in-Some-lost.card) (c.in-Some-lost.ensures room ps s i kept))
 
 pub returns : goal.returns
 returns c room ps s kept fit =
     let n = c.index-count.result in
     let table = c.index-count.new.table in
     let i = subst (IndexOf ps) (sym (from_start n table)) (c.index-count.ensures.index ps s) in
-    (names_apart room ps (take (n - 0) table) i kept None c.in-default.ensures, names_aimed room ps (take (n - 0) table) i kept None (c.in-default-lost.ensures room ps s i kept), c.index-count.ensures.index ps s)
+    (names_apart room ps (take (n - 0) table) i kept None c.in_default.ensures, names_aimed room ps (take (n - 0) table) i kept None (c.in_default-lost.ensures room ps s i kept), c.index-count.ensures.index ps s)

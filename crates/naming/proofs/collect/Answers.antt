@@ -8,10 +8,10 @@ loop-k-init c = (omega arith, λ ps s. gathered_none ps)
 pub loop-k-preserved : goal.loop-k-preserved
 loop-k-preserved c =
     let inv = c.loop-k.invariant in
-    let low = noted_length c.shown-name.result c.loop-k.count c.loop-k.k c.loop-k.table c.note-count.result c.note-count.new.names c.note-count.ensures in
+    let low = noted_length c.shown_name.result c.loop-k.count c.loop-k.k c.loop-k.table c.note-count.result c.note-count.new.names c.note-count.ensures in
     let fit : c.loop-k.count < length c.loop-k.table = let pre = c.requires in let lt = c.loop-k-test.true in let long = c.loop-k.auto.table in omega (arith, inv.0) in (
       omega (arith, inv.0, low),
-      λ ps s. gathered_more ps c.shown-name.result c.loop-k.count c.loop-k.k c.loop-k.table c.note-count.result c.note-count.new.names fit c.note-count.ensures (c.shown-name.ensures _ (s.each c.loop-k.k _ c.loop-k-test.true)) (inv.1 ps s),
+      λ ps s. gathered_more ps c.shown_name.result c.loop-k.count c.loop-k.k c.loop-k.table c.note-count.result c.note-count.new.names fit c.note-count.ensures (c.shown_name.ensures _ (s.each c.loop-k.k _ c.loop-k-test.true)) (inv.1 ps s),
     )
 
 pub returns : goal.returns

@@ -4,7 +4,7 @@ use Rattle.model.specs.Cards.{blank}
 use Rattle.model.specs.Edits.{no_entry, without, went, marked_by}
 use Rattle.looking.proofs.Drawers.{shown_at}
 use Rattle.editing.proofs.applying.take_out.Goals as goal
-use Rattle.editing.proofs.applying.take_out.Goals.{in-Some, in-default}
+use Rattle.editing.proofs.applying.take_out.Goals.{in-Some, in_default}
 
 pub returns : goal.returns
 returns c d h few =
@@ -14,8 +14,8 @@ returns c d h few =
     let order = c.requires.ordered in
     let inside : from < length (entries d) = omega arith in
     let first = shown_at c.args.file.now cs d h from inside in
-    let marks : c.match-identifier-of.cards ≡ marked_by (went (entries d) from) (entries d) cs = elim c.match-identifier-of.branch [
-      | in-Some w ↦ w.cards-is ∙ w.void-pointers.ensures d h ∙ ap (λ o. marked_by o (entries d) cs) (w.in-Some.ensures first.placed (get_or (entries d) from no_entry) first.lined first.files)
-      | in-default w ↦ w.cards-is ∙ ap (λ o. marked_by o (entries d) cs) (w.in-default.ensures first.placed (get_or (entries d) from no_entry) first.lined first.files)
+    let marks : c.match-identifier_of.cards ≡ marked_by (went (entries d) from) (entries d) cs = elim c.match-identifier_of.branch [
+      | in-Some w ↦ w.cards-is ∙ w.void_pointers.ensures d h ∙ ap (λ o. marked_by o (entries d) cs) (w.in-Some.ensures first.placed (get_or (entries d) from no_entry) first.lined first.files)
+      | in_default w ↦ w.cards-is ∙ ap (λ o. marked_by o (entries d) cs) (w.in_default.ensures first.placed (get_or (entries d) from no_entry) first.lined first.files)
     ] in
     c.delete.ensures ∙ ap (λ l. without from to l ++ replicate (to - from) blank) marks

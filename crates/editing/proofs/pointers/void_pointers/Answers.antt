@@ -6,14 +6,14 @@ use Rattle.model.specs.Edits.{marked}
 use Rattle.model.proofs.Editing.{held_room}
 use Rattle.editing.proofs.Holding.{voided_turn}
 use Rattle.editing.proofs.pointers.void_pointers.Goals as goal
-use Rattle.editing.proofs.pointers.void_pointers.Goals.{then-points-to, else-points-to}
+use Rattle.editing.proofs.pointers.void_pointers.Goals.{then-points_to, else-points_to}
 
 pub loop-k-preserved : goal.loop-k-preserved
 loop-k-preserved c d h =
-    let turn = voided_turn c.args.file.now c.args.cards.now d h c.loop-k.k c.loop-k-test.true c.args.identifier.now c.loop-k.cards (c.loop-k.invariant d h) c.points-to.result c.points-to.ensures.shown c.points-to.ensures.blank in
-    elim c.if-points-to.branch [
-      | then-points-to w ↦ w.cards-is ∙ sym (cond-true c.points-to.result _ _ w.if-points-to.true) ∙ turn
-      | else-points-to w ↦ w.cards-is ∙ sym (cond-false c.points-to.result _ _ w.if-points-to.false) ∙ turn
+    let turn = voided_turn c.args.file.now c.args.cards.now d h c.loop-k.k c.loop-k-test.true c.args.identifier.now c.loop-k.cards (c.loop-k.invariant d h) c.points_to.result c.points_to.ensures.shown c.points_to.ensures.blank in
+    elim c.if-points_to.branch [
+      | then-points_to w ↦ w.cards-is ∙ sym (cond-true c.points_to.result _ _ w.if-points_to.true) ∙ turn
+      | else-points_to w ↦ w.cards-is ∙ sym (cond-false c.points_to.result _ _ w.if-points_to.false) ∙ turn
     ]
 
 pub returns : goal.returns

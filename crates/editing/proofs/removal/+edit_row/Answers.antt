@@ -20,10 +20,10 @@ returns-then-card-at g t c b s long =
     let at = c.loop-at.at in
     let x = c.args.siblings.context in
     let all = types_in m b c.args.siblings in
-    let stop = c.block-end-stop.result in
+    let stop = c.block_end-stop.result in
     let h : at < length b = omega arith in
     let level = c.level-level.ensures b s h in
-    c.remove-one.ensures b s long ∙ ap (λ o. first_by m o all at stop) (c.row-row.ensures ∙ ap (m.row x) (c.tag.ensures b s h)) ∙ sym (c.loop-at.invariant b s long ∙ edit_this b at c.args.siblings.level m x all c.args.card stop h (sym level ∙ c.if-level-siblings-2.true) (c.block-end-stop.ensures.ends b s long) c.if-card-at.true)
+    c.remove_one.ensures b s long ∙ ap (λ o. first_by m o all at stop) (c.row-row.ensures ∙ ap (m.row x) (c.tag.ensures b s h)) ∙ sym (c.loop-at.invariant b s long ∙ edit_this b at c.args.siblings.level m x all c.args.card stop h (sym level ∙ c.if-level-siblings-2.true) (c.block_end-stop.ensures.ends b s long) c.if-card-at.true)
 
 pub returns-then-card-stop : goal.returns-then-card-stop
 returns-then-card-stop g t c b s long =
@@ -33,13 +33,13 @@ returns-then-card-stop g t c b s long =
     let l = c.args.siblings.level in
     let k = c.args.card in
     let all = types_in m b c.args.siblings in
-    let stop = c.block-end-stop.result in
+    let stop = c.block_end-stop.result in
     let es = drop (at + 1) b in
     let h : at < length b = omega arith in
     let level = c.level-level.ensures b s h in
     let same = c.if-level-siblings-2.true in
     let row = c.row-row.ensures ∙ ap (m.row x) (c.tag.ensures b s h) in
-    c.raise.ensures b s long c.loop-at-test.true ∙ ap₂ (λ o e. raised_by m o all (get_or b at no_entry).payload at stop e) row (c.edit-row-below.ensures b s long ∙ ap₂ (λ y n. edit_row m y (row_types m y (n + 1) es) (n + 1) es (at + 1) k) (c.inside.ensures ∙ ap (within m) row) same) ∙ sym (c.loop-at.invariant b s long ∙ step_inside m b x all l k at stop (c.block-end-stop.ensures.ends b s long) h (sym level ∙ same) c.if-card-at.false c.if-card-stop.true)
+    c.raise.ensures b s long c.loop-at-test.true ∙ ap₂ (λ o e. raised_by m o all (get_or b at no_entry).payload at stop e) row (c.edit_row-below.ensures b s long ∙ ap₂ (λ y n. edit_row m y (row_types m y (n + 1) es) (n + 1) es (at + 1) k) (c.inside.ensures ∙ ap (within m) row) same) ∙ sym (c.loop-at.invariant b s long ∙ step_inside m b x all l k at stop (c.block_end-stop.ensures.ends b s long) h (sym level ∙ same) c.if-card-at.false c.if-card-stop.true)
 
 pub loop-at-preserved : goal.loop-at-preserved
 loop-at-preserved g t c b s long =
@@ -49,8 +49,8 @@ loop-at-preserved g t c b s long =
     let l = c.args.siblings.level in
     let k = c.args.card in
     let all = types_in m b c.args.siblings in
-    let stop = c.block-end-stop.result in
-    let ends = c.block-end-stop.ensures.ends b s long in
+    let stop = c.block_end-stop.result in
+    let ends = c.block_end-stop.ensures.ends b s long in
     let h : at < length b = omega arith in
     let level = c.level-level.ensures b s h in
     c.loop-at.invariant b s long ∙ elim c.else-level-siblings-2.branch [

@@ -4,8 +4,8 @@ use Rattle.editing.specs.Rows.{edit_from}
 use Rattle.editing.proofs.removal.+edit_row.Given as goal
 
 -- a level is a byte
-abbrev pub decreases-edit-row : goal.decreases-edit-row
-decreases-edit-row g l = 256 - l.siblings.level
+abbrev pub decreases-edit_row : goal.decreases-edit_row
+decreases-edit_row g l = 256 - l.siblings.level
 
 abbrev pub invariant-loop-at : goal.invariant-loop-at
 invariant-loop-at g l = (b : List Entry) → g.E.Entries.shows l.entries b → l.count ≡ length b → edit_from (g.B.Book.meaning l.book) b l.siblings l.start l.card ≡ edit_from (g.B.Book.meaning l.book) b l.siblings l.at l.card

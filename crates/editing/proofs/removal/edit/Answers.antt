@@ -6,14 +6,14 @@ use Rattle.model.specs.Positions.{within}
 use Rattle.editing.proofs.Descent.{in_header, in_records, some_body}
 use Rattle.editing.proofs.removal.edit.Goals as goal
 
-pub returns-then-card-header-end : goal.returns-then-card-header-end
-returns-then-card-header-end g c d s =
+pub returns-then-card-header_end : goal.returns-then-card-header_end
+returns-then-card-header_end g c d s =
     let m = g.B.Book.meaning c.args.book.now in
     let long = c.count-count.ensures (body (entries d)) s in
-    c.edit-row.ensures (body (entries d)) s long ∙ in_header m d c.args.card c.block-end-header-end.result (c.block-end-header-end.ensures.ends (body (entries d)) s long) c.inside.result (c.inside.ensures ∙ ap (within m) (c.row-header.ensures ∙ ap (m.row Top) (c.tag.ensures (body (entries d)) s (some_body d)))) c.if-card-header-end.true
+    c.edit_row.ensures (body (entries d)) s long ∙ in_header m d c.args.card c.block_end-header_end.result (c.block_end-header_end.ensures.ends (body (entries d)) s long) c.inside.result (c.inside.ensures ∙ ap (within m) (c.row-header.ensures ∙ ap (m.row Top) (c.tag.ensures (body (entries d)) s (some_body d)))) c.if-card-header_end.true
 
-pub returns-else-card-header-end : goal.returns-else-card-header-end
-returns-else-card-header-end g c d s =
+pub returns-else-card-header_end : goal.returns-else-card-header_end
+returns-else-card-header_end g c d s =
     let m = g.B.Book.meaning c.args.book.now in
     let long = c.count-count.ensures (body (entries d)) s in
-    c.edit-row-else-card-header-end.ensures (body (entries d)) s long ∙ in_records m d c.args.card c.block-end-header-end.result (c.block-end-header-end.ensures.ends (body (entries d)) s long) c.if-card-header-end.false
+    c.edit_row-else-card-header_end.ensures (body (entries d)) s long ∙ in_records m d c.args.card c.block_end-header_end.result (c.block_end-header_end.ensures.ends (body (entries d)) s long) c.if-card-header_end.false

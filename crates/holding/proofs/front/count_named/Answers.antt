@@ -15,17 +15,17 @@ blank_state Voided h = absurd (h (λ e. let z : ◌≡◌ {A = ℕ} 0 1 = cc in 
 blank_state Emptied h = absurd (h (λ e. let z : ◌≡◌ {A = ℕ} 0 1 = cc in omega arith))
 blank_state Blank h = mathlib.Core.Path.refl
 
-pub returns-then-not-is-named : goal.returns-then-not-is-named
-returns-then-not-is-named c = record {
+pub returns-then-not-is_named : goal.returns-then-not-is_named
+returns-then-not-is_named c = record {
   within = let low = c.loop-k-test.true in omega arith;
   named = c.loop-k.invariant;
-  ends = λ h. blank_state (card c.args.drawer.now c.loop-k.k).state (λ n. not_from_Decides c.is-named.result c.is-named.ensures c.if-not-is-named.true (λ e. n (ap (λ (x : Card). x.state) (sym (card_is c.args.drawer.now c.loop-k.k _ c.loop-k-test.true)) ∙ e)));
+  ends = λ h. blank_state (card c.args.drawer.now c.loop-k.k).state (λ n. not_from_Decides c.is_named.result c.is_named.ensures c.if-not-is_named.true (λ e. n (ap (λ (x : Card). x.state) (sym (card_is c.args.drawer.now c.loop-k.k _ c.loop-k-test.true)) ∙ e)));
 }
 
 pub loop-k-preserved : goal.loop-k-preserved
 loop-k-preserved c j h = elim (cases_lt j c.loop-k.k) [
   | inl q ↦ c.loop-k.invariant j q
-  | inr q ↦ subst (λ n. (card c.args.drawer.now n).state ≡ Blank → ⊥) (let z : c.loop-k.k ≡ j = omega arith in z) (λ e. c.is-named.ensures.0 c.if-not-is-named.false (ap (λ (x : Card). x.state) (card_is c.args.drawer.now c.loop-k.k _ c.loop-k-test.true) ∙ e))
+  | inr q ↦ subst (λ n. (card c.args.drawer.now n).state ≡ Blank → ⊥) (let z : c.loop-k.k ≡ j = omega arith in z) (λ e. c.is_named.ensures.0 c.if-not-is_named.false (ap (λ (x : Card). x.state) (card_is c.args.drawer.now c.loop-k.k _ c.loop-k-test.true) ∙ e))
 ]
 
 pub returns : goal.returns

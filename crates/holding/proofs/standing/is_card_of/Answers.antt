@@ -12,5 +12,5 @@ returns-then-cards-k c = never _ (λ m. c.if-cards-k.true (ap (λ (x : Card). x.
 
 pub returns : goal.returns
 returns c =
-    let d = turned c.is-continuation.result _ c.is-continuation.ensures in
+    let d = turned c.is_continuation.result _ c.is_continuation.ensures in
     (λ t. record { within = c.if-k-cards.false; byte = ap (λ (x : Card). x.byte) (sym (card_is c.args.cards.now c.args.k _ c.if-k-cards.false)) ∙ c.if-cards-k.false; own = d.0 t }, λ m. d.1 m.own)

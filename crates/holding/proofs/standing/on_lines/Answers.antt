@@ -12,8 +12,8 @@ use Rattle.holding.proofs.standing.on_lines.Goals.{in-End, in-Broken}
 pub loop-found-init : goal.loop-found-init
 loop-found-init c = (c.new-cursor.ensures.file, omega arith, λ ps l. merging_start c.args.file.now ps c.args.cards.now c.new-cursor.result.at l c.new-cursor.ensures.start.0)
 
-pub loop-found-smaller-then-is-card-of : goal.loop-found-smaller-then-is-card-of
-loop-found-smaller-then-is-card-of c =
+pub loop-found-smaller-then-is_card_of : goal.loop-found-smaller-then-is_card_of
+loop-found-smaller-then-is_card_of c =
     let line = c.in-Line.ensures.steps in
     let same = ap length c.loop-found.invariant.0 in
     let ended = line.ended in
@@ -30,12 +30,12 @@ loop-found-smaller c =
     let past = next_line_past c.loop-found.cursor.file.now c.loop-found.cursor.at in
     omega arith
 
-pub loop-found-preserved-then-is-card-of : goal.loop-found-preserved-then-is-card-of
-loop-found-preserved-then-is-card-of c =
+pub loop-found-preserved-then-is_card_of : goal.loop-found-preserved-then-is_card_of
+loop-found-preserved-then-is_card_of c =
     let file = c.args.file.now in
     let from = c.loop-found.cursor.at in
     let line = other_comes file c.loop-found.cursor.file.now from c.loop-found.cursor.lines c.step.new.self.at c.step.new.self.lines c.in-Line.found c.loop-found.invariant.0 c.in-Line.ensures.steps in
-    let match = c.is-card-of.ensures.0 c.if-is-card-of.true in
+    let match = c.is_card_of.ensures.0 c.if-is_card_of.true in
     (c.in-Line.ensures.file ∙ c.loop-found.invariant.0, (let low = match.within in omega arith), λ ps l. merging_match file ps c.args.cards.now from c.loop-found.k c.loop-found.cursor.lines c.step.new.self.at c.step.new.self.lines c.in-Line.found (c.loop-found.invariant.2 ps l) line match)
 
 pub loop-found-preserved : goal.loop-found-preserved
@@ -43,7 +43,7 @@ loop-found-preserved c =
     let file = c.args.file.now in
     let from = c.loop-found.cursor.at in
     let line = other_comes file c.loop-found.cursor.file.now from c.loop-found.cursor.lines c.step.new.self.at c.step.new.self.lines c.in-Line.found c.loop-found.invariant.0 c.in-Line.ensures.steps in
-    (c.in-Line.ensures.file ∙ c.loop-found.invariant.0, c.loop-found.invariant.1, λ ps l. merging_pass file ps c.args.cards.now from c.loop-found.k c.loop-found.cursor.lines c.step.new.self.at c.step.new.self.lines c.in-Line.found (c.loop-found.invariant.2 ps l) line (not_from_Decides c.is-card-of.result c.is-card-of.ensures c.if-is-card-of.false))
+    (c.in-Line.ensures.file ∙ c.loop-found.invariant.0, c.loop-found.invariant.1, λ ps l. merging_pass file ps c.args.cards.now from c.loop-found.k c.loop-found.cursor.lines c.step.new.self.at c.step.new.self.lines c.in-Line.found (c.loop-found.invariant.2 ps l) line (not_from_Decides c.is_card_of.result c.is_card_of.ensures c.if-is_card_of.false))
 
 pub returns : goal.returns
 returns c ps l =

@@ -18,7 +18,7 @@ returns-in-Some g c b s t =
     let (x, n) = c.in-Some.ensures b s h in
     let low : j < length marks = (let within = n.within in omega (arith, t.long)) in
     let decides = aimed_decides m b t.judgeable.apart i (get_or marks i no_mark).row u x j (get_or marks j no_mark).row (sym c.kind.ensures ∙ c.in-Pointer.is) n.points n.within n.named (t.all.row j n.within) in
-    decides_row m b marks t aimed_right i h c.is-of-type.result (Decides-at c.is-of-type.result (eqb (get_or marks j no_mark).row.typed u) (c.is-of-type.ensures low) decides)
+    decides_row m b marks t aimed_right i h c.is_of_type.result (Decides-at c.is_of_type.result (eqb (get_or marks j no_mark).row.typed u) (c.is_of_type.ensures low) decides)
 
 pub returns-in-None : goal.returns-in-None
 returns-in-None g c b s t =

@@ -17,15 +17,15 @@ loop-i-init g c = (
       (contexts_start m b ok.levelled (replicate 65 Top) refl, marked_none m b c.args.marks.now),
 )
 
-pub returns-in-default : goal.returns-in-default
-returns-in-default g c = record {
+pub returns-in_default : goal.returns-in_default
+returns-in_default g c = record {
   rows = λ b s ok long.
       let m = g.B.Book.meaning c.args.book.now in
       let i = c.loop-i.i in
-      let l = c.level-of-level.result in
+      let l = c.level_of-level.result in
       let h : i < length b = omega arith in
       let inv = c.loop-i.invariant.2 b s ok (long ∙ sym c.loop-i.auto.marks) in
-      let row : row_at m b i ≡ None = row_found m b ok.levelled i h l (c.level-of-level.ensures.level b s ok.levelled h) c.loop-i.contexts inv.0 c.tag.result.now (c.tag.ensures b s h) None c.in-default.ensures in
+      let row : row_at m b i ≡ None = row_found m b ok.levelled i h l (c.level_of-level.ensures.level b s ok.levelled h) c.loop-i.contexts inv.0 c.tag.result.now (c.tag.ensures b s h) None c.in_default.ensures in
       first_broken (KeepsAt m b known) i (length b) h (marked_known m b c.loop-i.marks i inv.1) (no_row_breaks m b i row);
   small = λ e. never c.loop-i.i (sym e);
 }
@@ -33,21 +33,21 @@ returns-in-default g c = record {
 pub loop-i-preserved : goal.loop-i-preserved
 loop-i-preserved g c =
     let i = c.loop-i.i in
-    let l = c.level-of-level.result in
+    let l = c.level_of-level.result in
     let r = c.in-Some.row in
     let m = g.B.Book.meaning c.args.book.now in
     let lawful = g.met.B.Book.lawful c.args.book.now in
     let is : m.row (get_or c.loop-i.contexts l Top) c.tag.result.now ≡ Some r = sym c.in-Some.ensures in
     let below = lawful.row_below (get_or c.loop-i.contexts l Top) c.tag.result.now r is in
     let few = lawful.few in
-    let low = c.level-of-level.ensures.shallow in
+    let low = c.level_of-level.ensures.shallow in
     let room = c.loop-i.invariant.0 in (
       length-set c.loop-i.contexts _ _ ∙ room,
       small_more c.loop-i.marks i (record { level = l; row = r }) (omega arith) c.loop-i.invariant.1 (record { shallow = low; few = omega arith }),
       λ b s ok long.
           let h : i < length b = omega (arith, length-set c.loop-i.marks i (record { level = l; row = r })) in
           let inv = c.loop-i.invariant.2 b s ok (long ∙ length-set c.loop-i.marks i (record { level = l; row = r })) in
-          let at = c.level-of-level.ensures.level b s ok.levelled h in
+          let at = c.level_of-level.ensures.level b s ok.levelled h in
           let row : row_at m b i ≡ Some r = row_found m b ok.levelled i h l at c.loop-i.contexts inv.0 c.tag.result.now (c.tag.ensures b s h) (Some r) c.in-Some.ensures in (
             contexts_more m b ok.levelled i h l (sym at) c.loop-i.contexts inv.0 r row (omega arith),
             marked_more m b c.loop-i.marks i (record { level = l; row = r }) (omega arith) inv.1 at row,

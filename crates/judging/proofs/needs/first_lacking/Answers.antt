@@ -5,7 +5,7 @@ use Rattle.model.proofs.Turns.{ahead_empty, ahead_test, ahead_turn}
 use Rattle.judging.specs.Marks.{no_mark}
 use Rattle.judging.specs.Sets.{bit}
 use Rattle.judging.proofs.needs.first_lacking.Goals as goal
-use Rattle.judging.proofs.needs.first_lacking.Goals.{in-Some, in-default}
+use Rattle.judging.proofs.needs.first_lacking.Goals.{in-Some, in_default}
 
 pub loop-i-init : goal.loop-i-init
 loop-i-init g c b t =
@@ -28,9 +28,9 @@ loop-i-preserved g c b t =
     let lack = subst (λ n. LackOf m b n c.loop-i.found) back inv.0 in
     let ahead = subst (λ n. Ahead m b 1024 n has) back inv.1 in
     let under = ahead_test m b 1024 lev i h x.level at x.row row has ahead in (
-      elim c.match-first-missing.branch [
+      elim c.match-first_missing.branch [
         | in-Some w ↦ subst (LackOf m b i) (sym w.found-is) (lack_broken m b i x.row w.in-Some.typed h row (w.in-Some.ensures (under_at m b i) under))
-        | in-default w ↦ subst (LackOf m b i) (sym w.found-is) (lack_kept m b i x.row c.loop-i.found row lack (w.in-default.ensures (under_at m b i) under))
+        | in_default w ↦ subst (LackOf m b i) (sym w.found-is) (lack_kept m b i x.row c.loop-i.found row lack (w.in_default.ensures (under_at m b i) under))
       ],
       ahead_turn m b 1024 lev i h x.level at x.row row has (bit c.turn.new.self.words) c.turn.ensures ahead,
     )

@@ -4,7 +4,7 @@ use Rattle.model.specs.Positions.{NeedMet}
 use Rattle.model.proofs.Finding.{first_kept, needs_met, need_met, need_none, need_below, need_missing}
 use Rattle.judging.specs.Sets.{bit}
 use Rattle.judging.proofs.needs.first_missing.Goals as goal
-use Rattle.judging.proofs.needs.first_missing.Goals.{in-Some+else-not-has, in-default}
+use Rattle.judging.proofs.needs.first_missing.Goals.{in-Some+else-not-has, in_default}
 
 pub has-requires : goal.has-requires
 has-requires g c =
@@ -31,7 +31,7 @@ loop-j-preserved g c ts d =
     let j = c.loop-j.j in
     first_kept (NeedMet m c.args.context ts) j (c.loop-j.invariant ts d) (elim c.match-need.branch [
       | in-Some+else-not-has w ↦ (let e : m.need c.args.context j ≡ Some w.in-Some.typed = sym w.in-Some.ensures in need_met m lawful c.args.context ts j w.in-Some.typed e ((d w.in-Some.typed (need_below m lawful c.args.context ts j w.in-Some.typed e)).0 (sym w.has.ensures ∙ w.if-not-has.false)))
-      | in-default w ↦ need_none m lawful c.args.context ts j (sym w.in-default.ensures)
+      | in_default w ↦ need_none m lawful c.args.context ts j (sym w.in_default.ensures)
     ])
 
 pub returns : goal.returns

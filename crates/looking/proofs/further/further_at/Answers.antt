@@ -31,11 +31,11 @@ returns-in-End c ps e l s = trailing_end c.loop-found.cursor.file.now c.loop-fou
 pub returns-in-Broken : goal.returns-in-Broken
 returns-in-Broken c ps e l s = absurd (trailing_stuck c.loop-found.cursor.file.now c.loop-found.cursor.at c.loop-found.passed c.args.number e (c.loop-found.invariant.1 ps e l s) c.in-Broken.ensures.steps.0)
 
-pub returns-then-not-is-continuation : goal.returns-then-not-is-continuation
-returns-then-not-is-continuation c ps e l s =
+pub returns-then-not-is_continuation : goal.returns-then-not-is_continuation
+returns-then-not-is_continuation c ps e l s =
     let came = trailing_comes c.loop-found.cursor.file.now c.loop-found.cursor.at c.loop-found.cursor.lines _ _ c.loop-found.passed c.args.number e c.in-Line.found (c.loop-found.invariant.1 ps e l s) c.in-Line.ensures.steps in
     elim came [
-      | inl on ↦ absurd (not_from_Decides c.is-continuation.result c.is-continuation.ensures c.if-not-is-continuation.true on.tag)
+      | inl on ↦ absurd (not_from_Decides c.is_continuation.result c.is_continuation.ensures c.if-not-is_continuation.true on.tag)
       | inr end ↦ end.none
     ]
 
@@ -44,7 +44,7 @@ returns-then-passed-number c ps e l s =
     let came = trailing_comes c.loop-found.cursor.file.now c.loop-found.cursor.at c.loop-found.cursor.lines _ _ c.loop-found.passed c.args.number e c.in-Line.found (c.loop-found.invariant.1 ps e l s) c.in-Line.ensures.steps in
     elim came [
       | inl on ↦ ap Some (c.text_in.ensures ∙ text_is c.in-Line.found.line.payload on.text on.value) ∙ sym (on.told ∙ ap (slice_get (on.text ∷ on.more)) (let z : c.args.number - c.loop-found.passed ≡ 0 = omega arith in z))
-      | inr end ↦ absurd (end.other (c.is-continuation.ensures.0 c.if-not-is-continuation.false))
+      | inr end ↦ absurd (end.other (c.is_continuation.ensures.0 c.if-not-is_continuation.false))
     ]
 
 pub loop-found-smaller : goal.loop-found-smaller
@@ -63,6 +63,6 @@ loop-found-preserved c = (
       let came = trailing_comes c.loop-found.cursor.file.now c.loop-found.cursor.at c.loop-found.cursor.lines c.step.new.self.at _ c.loop-found.passed c.args.number e c.in-Line.found (c.loop-found.invariant.1 ps e l s) c.in-Line.ensures.steps in
       elim came [
         | inl on ↦ subst (λ f. Trailing f c.step.new.self.at (c.loop-found.passed + 1) c.args.number e) (sym c.in-Line.ensures.file) (on.on c.if-passed-number.false c.loop-found.invariant.0)
-        | inr end ↦ absurd (end.other (c.is-continuation.ensures.0 c.if-not-is-continuation.false))
+        | inr end ↦ absurd (end.other (c.is_continuation.ensures.0 c.if-not-is_continuation.false))
       ],
 )

@@ -6,4 +6,4 @@ use Rattle.looking.proofs.shown.content_of.Goals as goal
 pub returns-in-Filed : goal.returns-in-Filed
 returns-in-Filed c ps e l f settled =
     let shown : e.payload ≡ f.filed = f.shows ∙ ap (λ s. after s f.filed) c.in-Filed.is in
-    subst (StandsFor c.filed-content.result) (sym shown) (c.filed-content.ensures ps _ l f.stands (λ q. settled (shown ∙ q)))
+    subst (StandsFor c.filed_content.result) (sym shown) (c.filed_content.ensures ps _ l f.stands (λ q. settled (shown ∙ q)))

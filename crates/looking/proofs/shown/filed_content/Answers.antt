@@ -22,7 +22,7 @@ returns-in-Line c ps e l s settled =
     let gone = left_goes c.new-cursor.result.file.now c.new-cursor.result.at _ c.step.new.self.at _ c.in-Line.own w.cut.line w.cut.more rest c.in-Line.ensures.steps in
     let left = subst (λ f. Left f c.step.new.self.at w.cut.more) (sym c.in-Line.ensures.file) gone in
     let goes = whole_goes ps c.args.byte e w in
-    subst (λ r. StandsFor r e.payload) (sym (c.content-behind.ensures w.cut.more (left.are, left.good) goes.on goes.decides))
+    subst (λ r. StandsFor r e.payload) (sym (c.content_behind.ensures w.cut.more (left.are, left.good) goes.on goes.decides))
     (content_right c.in-Line.own.line.payload goes.on e.payload (shows.value ∙ ap (λ (x : model.Line). x.value) w.line) goes.alone goes.followed settled)
 
 pub returns-in-End : goal.returns-in-End

@@ -44,4 +44,4 @@ returns-in-Line c ps i l h e =
     let rest = left_here c.args.file.now ps i c.args.byte c.new-cursor.result.file.now c.new-cursor.result.at l k e c.new-cursor.ensures.file c.new-cursor.ensures.start.0 in
     let gone = left_goes c.new-cursor.result.file.now c.new-cursor.result.at _ c.step.new.self.at _ c.in-Line.field-0 k.line k.more rest c.in-Line.ensures.steps in
     let left = subst (λ f. Left f c.step.new.self.at k.more) (sym c.in-Line.ensures.file) gone in
-    behind ps i k c.next-continues.result k.more refl (c.next-continues.ensures k.more (left.are, left.good))
+    behind ps i k c.next_continues.result k.more refl (c.next_continues.ensures k.more (left.are, left.good))

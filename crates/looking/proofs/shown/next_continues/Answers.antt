@@ -7,7 +7,7 @@ use Rattle.looking.proofs.shown.next_continues.Goals as goal
 pub returns-in-Line : goal.returns-in-Line
 returns-in-Line c rest (are, good) =
     let w = left_comes c.args.cursor.now.file.now c.args.cursor.now.at _ _ _ c.in-Line.next rest (record { are = are; good = good }) c.in-Line.ensures.steps in
-    let d = c.is-continuation.ensures in
+    let d = c.is_continuation.ensures in
     (λ t. subst BeginsOn (sym w.are) (sym w.shows.tag ∙ d.0 t), λ q. d.1 (w.shows.tag ∙ subst BeginsOn w.are q))
 
 pub returns-in-End : goal.returns-in-End

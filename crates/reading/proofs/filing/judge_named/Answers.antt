@@ -7,10 +7,10 @@ use Rattle.reading.proofs.filing.judge_named.Goals as goal
 pub returns-in-Some : goal.returns-in-Some
 returns-in-Some g c d e few = record {
   finding = c.in-Some.finding;
-  at = c.place-of.result;
+  at = c.place_of.result;
   told = c.in-Some.ensures (body (entries d)) (d, e, refl) (judgeable d e.is few);
   is = c.told.ensures;
-  placed = c.place-of.ensures;
+  placed = c.place_of.ensures;
 }
 
 pub returns-in-None : goal.returns-in-None

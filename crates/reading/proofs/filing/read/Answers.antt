@@ -17,14 +17,14 @@ granting : (m : Meaning) (file : List â„•) (cards out : List Card) (r : Result â
 granting m file cards out (Ok n) e f = granted m file cards out n f
 granting m file cards out (Err x) e f = absurd (both_ways true e refl)
 
-pub returns-then-is-err : goal.returns-then-is-err
-returns-then-is-err g c = record {
-  reads = refusing (g.B.Book.meaning c.args.book.now) c.args.file.now c.args.drawer.now c.fill-and-judge-answer.new.drawer c.blank-from.new.drawer c.fill-and-judge-answer.result (sym c.if-is-err.ensures.value) c.fill-and-judge-answer.ensures c.blank-from.ensures;
+pub returns-then-is_err : goal.returns-then-is_err
+returns-then-is_err g c = record {
+  reads = refusing (g.B.Book.meaning c.args.book.now) c.args.file.now c.args.drawer.now c.fill_and_judge-answer.new.drawer c.blank_from.new.drawer c.fill_and_judge-answer.result (sym c.if-is_err.ensures.value) c.fill_and_judge-answer.ensures c.blank_from.ensures;
   long = search rules;
 }
 
-pub returns-else-is-err : goal.returns-else-is-err
-returns-else-is-err g c = record {
-  reads = granting (g.B.Book.meaning c.args.book.now) c.args.file.now c.args.drawer.now c.fill-and-judge-answer.new.drawer c.fill-and-judge-answer.result (sym c.if-is-err.ensures.value) c.fill-and-judge-answer.ensures;
+pub returns-else-is_err : goal.returns-else-is_err
+returns-else-is_err g c = record {
+  reads = granting (g.B.Book.meaning c.args.book.now) c.args.file.now c.args.drawer.now c.fill_and_judge-answer.new.drawer c.fill_and_judge-answer.result (sym c.if-is_err.ensures.value) c.fill_and_judge-answer.ensures;
   long = search rules;
 }

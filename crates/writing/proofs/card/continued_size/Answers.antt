@@ -13,13 +13,13 @@ loop-line-preserved c =
       λ level texts t.
           let (more, trails, e) = all level texts t in
           let n = next.goes level more trails in
-          (n.more, subst (λ f. Trails f c.next-continuation.new.cursor.at level n.more) (sym next.file) n.behind, sized_more _ _ level more c.in-Some.line.now n c.loop-line.size _ e),
+          (n.more, subst (λ f. Trails f c.next_continuation.new.cursor.at level n.more) (sym next.file) n.behind, sized_more _ _ level more c.in-Some.line.now n c.loop-line.size _ e),
     )
 
 pub returns : goal.returns
 returns c =
     let (same, bound, all) = c.loop-line.invariant in
-    let next = c.in-default.ensures in
+    let next = c.in_default.ensures in
     record {
       size = λ level texts t.
           let (more, trails, e) = all level texts t in

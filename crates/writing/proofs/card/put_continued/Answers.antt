@@ -12,12 +12,12 @@ loop-line-preserved c = λ level texts t.
     let n = next.goes level more trails in
     let bytes = c.in-Some.line.now in (
       n.more,
-      subst (λ f. Trails f c.next-continuation.new.cursor.at level n.more) (sym next.file) n.behind,
-      (done ++ (bytes ++ 10 ∷ []), put_more _ _ level more bytes n done _ e, adds_then c.args.buffer.now c.args.at done c.loop-line.end c.loop-line.buffer (bytes ++ 10 ∷ []) c.put-line-end.result c.put-line-end.new.buffer adds c.put-line-end.ensures),
+      subst (λ f. Trails f c.next_continuation.new.cursor.at level n.more) (sym next.file) n.behind,
+      (done ++ (bytes ++ 10 ∷ []), put_more _ _ level more bytes n done _ e, adds_then c.args.buffer.now c.args.at done c.loop-line.end c.loop-line.buffer (bytes ++ 10 ∷ []) c.put_line-end.result c.put_line-end.new.buffer adds c.put_line-end.ensures),
     )
 
 pub returns : goal.returns
 returns c = λ level texts t.
     let (more, trails, (done, e, adds)) = c.loop-line.invariant level texts t in
-    let none = c.in-default.ensures.goes level more trails in
+    let none = c.in_default.ensures.goes level more trails in
     adds_same c.args.buffer.now c.args.at done (with_line_feeds (continuations level texts)) c.loop-line.end c.loop-line.buffer (sym (append-nil done) ∙ ap (λ ts. done ++ with_line_feeds (continuations level ts)) (sym none) ∙ e) adds

@@ -7,8 +7,8 @@ pub returns-in-Line : goal.returns-in-Line
 returns-in-Line c =
     let step = c.in-Line.ensures in
     record {
-      own = λ e b. subst (λ file. OwnOf c.in-Line.found file c.step.new.self.at e) (sym step.file) (own_comes c.args.cursor.now.file.now c.args.cursor.now.at _ _ _ c.in-Line.found e b step.steps);
-      passed = let past = comes_past c.args.cursor.now.file.now c.args.cursor.now.at _ _ _ c.in-Line.found step.steps in omega arith;
+      own = λ e b. subst (λ file. OwnOf c.in-Line.found file c.step.new.self.at e) (sym step.file) (own_comes c.args.cursor.now.file.now c.args.cursor.now.at _ _ _ c.in-Line.found e b step.steps step.bytes);
+      passed = let past = comes_past c.args.cursor.now.file.now c.args.cursor.now.at _ _ _ c.in-Line.found step.steps step.bytes in omega arith;
       file = step.file;
     }
 

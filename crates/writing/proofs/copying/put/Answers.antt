@@ -18,4 +18,4 @@ copied buffer at bytes part e =
     ∙ ap (λ x. take at buffer ++ (bytes ++ x)) (drop-drop (length bytes) at buffer)
 
 pub returns : goal.returns
-returns c = adds_copied c.args.buffer.now c.args.at c.args.bytes.now _ _ refl (copied c.args.buffer.now c.args.at c.args.bytes.now c.copy-from-slice.new.self c.copy-from-slice.ensures.after)
+returns c = adds_copied c.args.buffer.now c.args.at c.args.bytes.now _ _ refl (copied c.args.buffer.now c.args.at c.args.bytes.now c.copy_from_slice.new.self c.copy_from_slice.ensures.after)

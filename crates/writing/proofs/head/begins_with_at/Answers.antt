@@ -6,5 +6,5 @@ empty : (bs : List ℕ) (b : Bool) → b ≡ eqb (length bs) 0 → b ≡ true �
 empty [] b e t = (λ f. absurd (let z = sym (ap not t) ∙ f in grind (arith, nat_tests)), λ f. absurd (omega arith))
 empty (x ∷ bs) b e t = absurd (grind (arith, nat_tests))
 
-pub returns-else-not-is-empty : goal.returns-else-not-is-empty
-returns-else-not-is-empty c = empty c.args.text.now c.is-empty.result c.is-empty.ensures c.if-not-is-empty.false
+pub returns-else-not-is_empty : goal.returns-else-not-is_empty
+returns-else-not-is_empty c = empty c.args.text.now c.is_empty.result c.is_empty.ensures c.if-not-is_empty.false

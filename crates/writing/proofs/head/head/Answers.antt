@@ -6,9 +6,9 @@ use Rattle.writing.proofs.head.head.Goals as goal
 pub returns : goal.returns
 returns c =
     let bytes = c.args.found.bytes.now in
-    let n = c.without-payload.result in
+    let n = c.without_payload.result in
     let whole : n - 0 ≡ n = omega arith in
     record {
-      head = λ l s e. head_taken l bytes (n - 0) e (whole ∙ c.without-payload.ensures ∙ ap (λ v. length bytes - length (spell_value v)) s.value);
+      head = λ l s e. head_taken l bytes (n - 0) e (whole ∙ c.without_payload.ensures ∙ ap (λ v. length bytes - length (spell_value v)) s.value);
       short = omega (arith, length-take (n - 0) bytes);
     }

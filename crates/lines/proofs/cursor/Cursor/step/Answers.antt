@@ -15,10 +15,10 @@ returns-in-None c =
     let file = c.args.self.now.file.now in
     let at = c.args.self.now.at in
     let none : NoLineAt file at = (omega arith, inl (ap parse (cut file at c.line_end-end.result c.line_end-end.ensures.value) ∙ c.in-None.ensures.parsed)) in
-    record { file = refl; steps = (none, (refl, refl)); given = λ ps s n. broken_given file at ps none s }
+    record { file = refl; steps = (none, (refl, refl)); given = λ ps s n. broken_given file at ps none s; bytes = tt }
 
 pub returns-then-self : goal.returns-then-self
-returns-then-self c = record { file = refl; steps = (c.if-self.true, (refl, refl)); given = λ ps s n. scanned_lined c.args.self.now.file.now ps c.args.self.now.at s c.if-self.true }
+returns-then-self c = record { file = refl; steps = (c.if-self.true, (refl, refl)); given = λ ps s n. scanned_lined c.args.self.now.file.now ps c.args.self.now.at s c.if-self.true; bytes = tt }
 
 pub returns-then-end-self : goal.returns-then-end-self
 returns-then-end-self c =
@@ -26,7 +26,7 @@ returns-then-end-self c =
     let at = c.args.self.now.at in
     let end = c.line_end-end.ensures.value in
     let none : NoLineAt file at = (omega arith, inr (omega arith)) in
-    record { file = refl; steps = (none, (refl, refl)); given = λ ps s n. broken_given file at ps none s }
+    record { file = refl; steps = (none, (refl, refl)); given = λ ps s n. broken_given file at ps none s; bytes = tt }
 
 ended : (file : List ℕ) (at end : ℕ) → end ≡ line_end file at → end ≤ length file → (end ≡ length file → ⊥) → line_end file at < length file
 ended file at end e low other = elim (cases_lt (line_end file at) (length file)) [ inl h ↦ h | inr h ↦ absurd (other (omega arith)) ]
@@ -44,8 +44,7 @@ returns-in-Some c =
       shows = shows;
       number = refl;
       byte = refl;
-      bytes = sym (cut file at c.line_end-end.result end.value);
       next_at = c.next_line-self.ensures.value ∙ ap (next_line file) end.value;
       next_number = refl;
     } in
-    record { file = refl; steps = comes; given = λ ps s n. line_given file at c.args.self.now.lines c.next_line-self.result (c.args.self.now.lines + 1) _ ps comes s n }
+    record { file = refl; steps = comes; given = λ ps s n. line_given file at c.args.self.now.lines c.next_line-self.result (c.args.self.now.lines + 1) _ ps comes s n; bytes = sym (cut file at c.line_end-end.result end.value) }

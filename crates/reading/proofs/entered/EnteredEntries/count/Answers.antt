@@ -3,4 +3,4 @@ use Rattle.reading.proofs.Entering.{counted, card_there, filed, shallow, worded,
 use Rattle.reading.proofs.entered.EnteredEntries.count.Goals as goal
 
 pub returns : goal.returns
-returns c b e = let s = c.args.self.now in let n = counted s.file.now s.cards.now s.names.now b e in let r = c.saturating-sub.ensures in omega arith
+returns c b e = let s = c.args.self.now in let n = counted s.file.now s.cards.now s.names.now b e in let r = c.saturating_sub.ensures in omega arith

@@ -6,7 +6,7 @@ pub returns-then-i-self : goal.returns-then-i-self
 returns-then-i-self c b e h =
     let s = c.args.self.now in
     let low = shallow s.file.now s.cards.now s.names.now b e c.args.i h in
-    let is = c.level-of.ensures e.1.placed (get_or b c.args.i _) e.1.lined (filed s.file.now s.cards.now s.names.now b e c.args.i h _) in
+    let is = c.level_of.ensures e.1.placed (get_or b c.args.i _) e.1.lined (filed s.file.now s.cards.now s.names.now b e c.args.i h _) in
     omega arith
 
 pub returns-else-i-self : goal.returns-else-i-self
