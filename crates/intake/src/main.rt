@@ -11,6 +11,7 @@ use characters::LIMIT;
 use failure::Failure;
 use model::{Card, MOST, State};
 use shelf::{Shelf, shelf_named};
+use std::process::ExitCode;
 use std::{env, fs};
 
 const USAGE: &str = "usage: intake check [--book home|plain|open] FILE
@@ -85,10 +86,18 @@ fn tell(rt: &HostRuntime, words: &[String], failure: Failure) -> Result<(), Fail
     Err(failure)
 }
 
-fn main(rt: HostRuntime) -> Result<(), Failure> {
-    let words: Vec<String> = env::args(&rt)?.collect(rt.alloc())?;
-    match run(&rt, &words) {
+fn answer(rt: &HostRuntime) -> Result<(), Failure> {
+    let words: Vec<String> = env::args(rt)?.collect(rt.alloc())?;
+    match run(rt, &words) {
         Ok(()) => Ok(()),
-        Err(failure) => tell(&rt, &words, failure),
+        Err(failure) => tell(rt, &words, failure),
+    }
+}
+
+// What went wrong is told by then, in one line.
+fn main(rt: HostRuntime) -> ExitCode {
+    match answer(&rt) {
+        Ok(()) => ExitCode::SUCCESS,
+        Err(_) => ExitCode::FAILURE,
     }
 }

@@ -64,7 +64,7 @@ pub fn tree_told(
             Content::Lines => {}
         }
     }
-    tags.sort();
+    tags.sort_unstable();
     tags_told(rt, &tags)?;
     let all = pointers.saturating_add(void);
     println!(rt; "{all} pointers, of which {void} are void")?;

@@ -9,6 +9,6 @@ returns-in-Filed c ps e f l v settled =
     elim c.in-Filed.is [
       | inl is ↦
           let same : e.payload ≡ f.filed = f.shows ∙ ap (λ (x : State). after x f.filed) is in
-          c.first-payload.ensures ps _ l f.stands v (λ q. settled (same ∙ q)) ∙ ap shown_payload (sym same)
+          c.first_payload.ensures ps _ l f.stands v (λ q. settled (same ∙ q)) ∙ ap shown_payload (sym same)
       | inr is ↦ absurd (subst (λ x. Allowed x f.filed) is f.allowed)
     ]

@@ -16,15 +16,15 @@ loop-k-preserved c d h =
     let file = c.args.file.now in
     let cards = c.args.drawer.now in
     let k = c.loop-k.k in
-    let all = front_count file cards d h c.count-named-k-end.result c.count-named-k-end.ensures in
+    let all = front_count file cards d h c.count_named-k-end.result c.count_named-k-end.ensures in
     let inside : k < card_count d = omega arith in
     let e = get_or (entries d) k no_entry in
     let front = with_line_feeds (all_lines (take k (entries d))) in
-    let next = c.write-card-end in
+    let next = c.write_card-end in
     adds_same c.args.buffer.now c.args.at _ (with_line_feeds (all_lines (take (k + 1) (entries d)))) next.result next.new.buffer (feeds_front d k inside)
     (adds_then c.args.buffer.now c.args.at front c.loop-k.end c.loop-k.buffer (card_bytes e) next.result next.new.buffer (c.loop-k.invariant d h) (next.ensures e (shown_card file cards d h k _ inside refl)))
 
 pub returns : goal.returns
 returns c d h =
-    let all = front_count c.args.file.now c.args.drawer.now d h c.count-named-k-end.result c.count-named-k-end.ensures in
+    let all = front_count c.args.file.now c.args.drawer.now d h c.count_named-k-end.result c.count_named-k-end.ensures in
     adds_same c.args.buffer.now c.args.at _ (with_line_feeds (lines d)) c.loop-k.end c.loop-k.buffer (feeds_all d c.loop-k.k (omega arith)) (c.loop-k.invariant d h)

@@ -11,17 +11,17 @@ loop-k-preserved c d h =
     let file = c.args.self.now.file.now in
     let cards = c.args.self.now.drawer.now in
     let k = c.loop-k.k in
-    let all = front_count file cards d h c.count-named-k-end.result c.count-named-k-end.ensures in
+    let all = front_count file cards d h c.count_named-k-end.result c.count_named-k-end.ensures in
     let few = held_few file cards d h in
     let inside : k < card_count d = omega arith in
     let (is, low) = c.loop-k.invariant d h in
-    let one = c.card-size.ensures.size (get_or (entries d) k no_entry) (shown_card file cards d h k _ inside refl) in
-    let bound = c.card-size.ensures.bound in
+    let one = c.card_size.ensures.size (get_or (entries d) k no_entry) (shown_card file cards d h k _ inside refl) in
+    let bound = c.card_size.ensures.bound in
     let short = h.passes.short in
-    let sum : c.saturating-add-size.result ≡ c.loop-k.size + c.card-size.result = let added = c.saturating-add-size.ensures in omega arith in
+    let sum : c.saturating_add-size.result ≡ c.loop-k.size + c.card_size.result = let added = c.saturating_add-size.ensures in omega arith in
     (omega (arith, front_long d k inside), omega arith)
 
 pub returns : goal.returns
 returns c d h =
-    let all = front_count c.args.self.now.file.now c.args.self.now.drawer.now d h c.count-named-k-end.result c.count-named-k-end.ensures in
+    let all = front_count c.args.self.now.file.now c.args.self.now.drawer.now d h c.count_named-k-end.result c.count_named-k-end.ensures in
     (c.loop-k.invariant d h).0 ∙ ap length (front_all d c.loop-k.k (omega arith))

@@ -14,9 +14,9 @@ pub returns : goal.returns
 returns c = record {
   written = λ d h.
       let buffer = c.args.buffer.now in
-      let adds = adds_then buffer 0 MARK c.put-end.result c.put-end.new.buffer (with_line_feeds (lines d)) c.write-cards.result c.write-cards.new.buffer c.put-end.ensures (c.write-cards.ensures d h) in
+      let adds = adds_then buffer 0 MARK c.put-end.result c.put-end.new.buffer (with_line_feeds (lines d)) c.write_cards.result c.write_cards.new.buffer c.put-end.ensures (c.write_cards.ensures d h) in
       let is = c.size-size.ensures d h in
       let (out, end) = adds [] buffer refl refl (let room = c.if-size-buffer.false in omega arith) in
-      fitted d buffer c.size-size.result is c.if-size-gt-LIMIT.false c.if-size-buffer.false c.write-cards.new.buffer c.write-cards.result out end;
+      fitted d buffer c.size-size.result is c.if-size-gt-LIMIT.false c.if-size-buffer.false c.write_cards.new.buffer c.write_cards.result out end;
   refused = λ f e. absurd (let z = ap {B = ℕ} (λ r. elim r [ Rattle.std.specs.declared.result.Result.TheVariants.Ok n ↦ 0 | Rattle.std.specs.declared.result.Result.TheVariants.Err x ↦ 1 ]) e in omega arith);
 }
