@@ -1,5 +1,5 @@
 -- What a call of a view does, by whether the view was opened. Assumes nothing.
-use Rattle.std.proofs.Common.{◌≡◌, ℕ, List, length, Some, Ok, Err, sym, refl, ap, ◌∙◌, subst}
+use Rattle.std.proofs.Common.{◌≡◌, ℕ, List, length, Some, Ok, Err, sym, refl, ap, subst}
 use Rattle.model.specs.declared.Call.{Call}
 use Rattle.model.specs.declared.Card.{Card}
 use Rattle.model.specs.declared.Refusal.{Refusal}

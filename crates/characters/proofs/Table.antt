@@ -1,5 +1,5 @@
 -- A rule of a table, shown at all of its entries by one test that is computed. Assumes nothing.
-use Rattle.std.proofs.Common.{◌≡◌, ℕ, zero, suc, ◌+◌, ◌<◌, Bool, true, false, ◌&&◌, List, [], ◌∷◌, length, get_or, sym, ◌∙◌, subst, arith}
+use Rattle.std.proofs.Common.{◌≡◌, ℕ, zero, suc, ◌+◌, ◌<◌, Bool, true, ◌&&◌, List, [], ◌∷◌, length, get_or, subst, arith}
 use Rattle.std.proofs.lemmas.Bool.{and_parts}
 
 -- the test passes at each entry and its place, counted from i

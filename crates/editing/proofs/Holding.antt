@@ -1,19 +1,13 @@
 -- What the line of a card shows of the structure that it files, and the cards of a drawer one by one. Assumes nothing.
-use Rattle.std.proofs.Common.{◌≡◌, ℕ, zero, suc, ◌+◌, ◌<◌, ◌≤◌, Bool, true, false, cond, List, [], ◌∷◌, ◌++◌, map, length, get_or, take, set, IsSomeAnd, Some, None, Option, sym, refl, ap, ◌∙◌, subst, inl, inr, append_assoc, arith, length-append}
-use lib.ListN.{get_or-append}
-use Rattle.std.proofs.ByRecursion.{All-get_or}
+use Rattle.std.proofs.Common.{◌≡◌, ℕ, ◌+◌, ◌<◌, Bool, true, false, cond, List, [], ◌∷◌, length, get_or, take, set, IsSomeAnd, Some, None, Option, sym, refl, ap, ◌∙◌, subst, inl, inr, arith}
 use Rattle.std.proofs.lemmas.List.{set-get_or, take_all}
 use Rattle.std.proofs.lemmas.Bool.{cases_lt, cond-false}
 use Rattle.model.specs.declared.Card.{Card}
 use Rattle.model.specs.declared.State.{State}
 use Rattle.model.specs.declared.State.TheVariants.{Filed, Blank}
-use Rattle.model.specs.Lines.{line_of}
-use Rattle.model.specs.Datasets.{Payload, none, text, void, pointer, Dataset, Entry, entries, entry_lines, first_value}
-use Rattle.model.specs.Files.{Placed, at}
-use Rattle.model.specs.Cards.{blank, Blanks, after, StandsAt, Files, FilesAll, Holds}
-use Rattle.model.specs.Refusals.{lines_of, byte_at}
+use Rattle.model.specs.Datasets.{Payload, none, text, void, pointer, Dataset, Entry, entries, first_value}
+use Rattle.model.specs.Cards.{after, Holds}
 use Rattle.model.specs.Edits.{no_entry, no_card, voided_card, marked_card, marked, emptied_state}
-use Rattle.model.proofs.Drawers.{files_long}
 use Rattle.model.proofs.Editing.{marked_more, marked_ahead}
 use Rattle.lines.specs.declared.line.Line.{Line}
 use Rattle.lines.specs.Shown.{value_of}

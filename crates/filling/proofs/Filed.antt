@@ -1,29 +1,27 @@
 -- Cards for the lines of a file, one line after the other. Assumes nothing.
-use Rattle.std.proofs.Common.{◌≡◌, ℕ, zero, suc, ◌+◌, ◌-◌, ◌<◌, ◌≤◌, min, Bool, true, false, cond, ◌⊎◌, List, [], ◌∷◌, ◌++◌, map, length, get_or, take, drop, set, Some, None, sym, refl, ap, ◌∙◌, subst, inl, inr, append_assoc, append-nil, arith, length-append, length-take}
+use Rattle.std.proofs.Common.{◌≡◌, ℕ, ◌+◌, ◌<◌, ◌≤◌, min, Bool, true, false, cond, List, [], ◌∷◌, ◌++◌, map, length, get_or, take, drop, set, Some, None, sym, refl, ap, ◌∙◌, subst, inl, inr, append_assoc, append-nil, arith, length-append, length-take}
 use mathlib.Core.List.{map-append}
 use lib.ListN.{length-map}
-use Rattle.std.specs.List.{AllByRecursion}
 use Rattle.std.specs.Str.{bytes_eq}
 use Rattle.std.proofs.ByRecursion.{All-push}
 use Rattle.std.proofs.lemmas.Slice.Eq.{bytes_eq-Decides}
 use Rattle.std.proofs.lemmas.List.{take-append-drop, take_all, drop_all, drop_more, set_at, get_or_at, length_push}
-use Rattle.std.proofs.lemmas.Bool.{cases_lt, cases_Bool, cond-true, cond-false}
+use Rattle.std.proofs.lemmas.Bool.{cases_lt, cases_Bool, cond-false}
 use Rattle.model.specs.declared.Card.{Card}
 use Rattle.model.specs.declared.Place.{Place}
 use Rattle.model.specs.Lines.{Line}
 use Rattle.model.specs.Datasets.{CONT}
-use Rattle.model.specs.Files.{Placed, Lined, Passes, InPlace, bytes_of}
+use Rattle.model.specs.Files.{Placed, Lined, InPlace}
 use Rattle.model.specs.Cards.{blank, Blanks}
 use Rattle.model.specs.Refusals.{First, lines_of, byte_at, others_from, others, Keeps11}
-use Rattle.model.specs.LineTurns.{Noted, is_marked, has_tag, spot, spot_of}
-use Rattle.model.proofs.Answering.{others_within}
+use Rattle.model.specs.LineTurns.{Noted, is_marked, has_tag, spot}
 use Rattle.model.proofs.Index.{places_rise}
 use Rattle.model.proofs.Reading.{filed, filed_others, length_filed, card_of}
 use Rattle.model.proofs.Scans.{filed_push}
 use Rattle.lines.specs.declared.steps.Found.{Found}
-use Rattle.lines.specs.Steps.{Comes, NoLineAt}
-use Rattle.filling.specs.Filling.{card_at, cards_of, BlankFrom, Filled, Puts}
-use Rattle.looking.proofs.Left.{Left, left_start, left_comes, left_end, left_stuck}
+use Rattle.lines.specs.Steps.{Comes}
+use Rattle.filling.specs.Filling.{card_at, BlankFrom, Filled, Puts}
+use Rattle.looking.proofs.Left.{Left, left_start, left_comes, left_end}
 
 -- Blanks
 

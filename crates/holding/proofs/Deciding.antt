@@ -1,31 +1,30 @@
 -- Cards that hold a dataset, and what a dataset says of the cards that hold it. Assumes nothing.
-use Rattle.std.proofs.Common.{◌≡◌, ℕ, zero, suc, ◌+◌, ◌-◌, ◌<◌, ◌≤◌, ◌⊎◌, List, [], ◌∷◌, ◌++◌, map, length, get_or, Some, None, sym, refl, ap, ◌∙◌, subst, inl, inr, append_assoc, arith, length-append}
+use Rattle.std.proofs.Common.{◌≡◌, ℕ, zero, suc, ◌+◌, ◌<◌, ◌≤◌, List, [], ◌∷◌, ◌++◌, map, length, get_or, None, sym, refl, ap, ◌∙◌, subst, append_assoc, arith, length-append}
 use lib.ListN.{length-map}
 use Rattle.std.specs.List.{AllByRecursion}
 use Rattle.std.proofs.lemmas.List.{get_or_at, get_or_default}
 use Rattle.model.specs.declared.Card.{Card}
 use Rattle.model.specs.declared.State.{State}
 use Rattle.model.specs.declared.State.TheVariants.{Filed, Voided, Emptied, Blank}
-use Rattle.model.specs.Lines.{Line, GoodLine, nothing, line_of}
-use Rattle.model.specs.Datasets.{Dataset, HEAD, TRLR, CONT, Payload, none, Entry, entry, entries, first_value, further, continuations, entry_lines, all_lines, lines, OwnTag, IsDataset}
+use Rattle.model.specs.Lines.{Line, nothing, line_of}
+use Rattle.model.specs.Datasets.{Dataset, HEAD, TRLR, Payload, none, Entry, entry, entries, first_value, further, continuations, entry_lines, all_lines, lines, OwnTag, IsDataset}
 use Rattle.model.specs.Files.{Placed, Lined, Ordered, Throughout, at, Passes}
 use Rattle.model.specs.Cards.{blank, Blanks, after, Files, FilesAll, Rising, Holds}
-use Rattle.model.specs.Refusals.{lines_of, byte_at, others_from, others, First, LineRule, levels, first, last, steps, named, continued, room, apart, aimed, Keeps12, Keeps13}
-use Rattle.model.specs.LineTurns.{placed_at, Noted, RulesKept}
-use Rattle.model.specs.Index.{place_of, card_line}
-use Rattle.model.proofs.Called.{called}
+use Rattle.model.specs.Refusals.{lines_of, others_from, others, levels, first, last, steps, named, continued, room, apart, aimed, Keeps12, Keeps13}
+use Rattle.model.specs.LineTurns.{placed_at, RulesKept}
+use Rattle.model.specs.Index.{card_line}
 use Rattle.model.proofs.Drawers.{files_long}
-use Rattle.model.proofs.Entries.{Settled, all_settled, all_lines_once}
+use Rattle.model.proofs.Entries.{all_settled, all_lines_once}
 use Rattle.model.proofs.Filing.{files_all_once}
 use Rattle.model.proofs.Growing.{Stepping, Shaped, entries_shaped}
 use Rattle.model.proofs.Grouping.{lines_dataset}
-use Rattle.model.proofs.Names.{every_left, every_right}
+use Rattle.model.proofs.Names.{every_left}
 use Rattle.model.proofs.Ordering.{own_line, framed_lines, entries_framed, dataset_ordered}
 use Rattle.model.proofs.Reading.{places, length_places, others_entries}
 use Rattle.model.proofs.Walking.{Shallow, framed, framed_ordered}
 use Rattle.naming.specs.Naming.{left_by, CardShows, CardsShow}
-use Rattle.looking.proofs.Placing.{Stood, stood}
-use Rattle.holding.specs.Standing.{card, LineOn, OnLine, OnLines, AllowedValue, Top, Followed, FitsAt, Fits}
+use Rattle.looking.proofs.Placing.{stood}
+use Rattle.holding.specs.Standing.{card, LineOn, OnLine, OnLines, AllowedValue, Fits}
 use Rattle.holding.proofs.Keeping.{line_once, there_allowed, Kept}
 
 -- What cards that file entries show

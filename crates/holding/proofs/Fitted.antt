@@ -1,5 +1,5 @@
 -- What the tests of the cards decide. Assumes nothing.
-use Rattle.std.proofs.Common.{◌≡◌, ℕ, ◌+◌, ◌<◌, ◌≤◌, min, Bool, true, false, not, leb, ◌⊎◌, List, length, get_or, Decides, sym, refl, ap, ◌∙◌, subst, inl, inr, true≢false, arith}
+use Rattle.std.proofs.Common.{◌≡◌, ℕ, ◌+◌, ◌<◌, ◌≤◌, min, Bool, true, false, not, leb, List, length, get_or, Decides, sym, refl, subst, true≢false, arith}
 use lib.ListN.{length-map}
 use Rattle.std.proofs.lemmas.List.{get_or_default}
 use Rattle.std.proofs.lemmas.Bool.{leb-true, le-leb}
@@ -8,8 +8,8 @@ use Rattle.model.specs.Lines.{Line}
 use Rattle.model.specs.Datasets.{TRLR}
 use Rattle.model.specs.Files.{Placed, Passes, at}
 use Rattle.model.specs.Cards.{blank}
-use Rattle.model.specs.Refusals.{lines_of, byte_at}
-use Rattle.holding.specs.Standing.{card, LineOn, OnLine, OnLines, AllowedValue, Top, Followed, FitsAt}
+use Rattle.model.specs.Refusals.{lines_of}
+use Rattle.holding.specs.Standing.{card, LineOn, OnLine, OnLines, AllowedValue, Top, Followed}
 
 pub never : (P : Type 0) → (P → ⊥) → Decides false P
 never P h = (λ e. absurd (true≢false (sym e)), λ p. absurd (h p))

@@ -1,5 +1,5 @@
 -- The cards that name lines, and a file that passes no check. Assumes nothing.
-use Rattle.std.proofs.Common.{◌≡◌, ℕ, ◌+◌, ◌-◌, ◌<◌, ◌≤◌, min, false, ◌⊎◌, List, [], ◌∷◌, ◌++◌, length, get_or, take, drop, None, Ok, Err, Result, sym, refl, ap, ◌∙◌, subst, inl, inr, arith, length-take}
+use Rattle.std.proofs.Common.{◌≡◌, ℕ, ◌-◌, ◌<◌, ◌≤◌, false, List, length, take, drop, None, Ok, Err, Result, sym, refl, ap, ◌∙◌, subst, inl, inr, arith, length-take}
 use lib.ListN.{length-map}
 use Rattle.std.specs.List.{AllByRecursion}
 use Rattle.std.proofs.ByRecursion.{All-from_get_or}
@@ -10,11 +10,11 @@ use Rattle.model.specs.declared.Kind.TheVariants.{Nothing}
 use Rattle.model.specs.declared.State.TheVariants.{Blank}
 use Rattle.model.specs.declared.Fault.{Fault}
 use Rattle.model.specs.Books.{Meaning}
-use Rattle.model.specs.Datasets.{Dataset, CONT, entries, all_lines}
+use Rattle.model.specs.Datasets.{Dataset, entries, all_lines}
 use Rattle.model.specs.Lines.{Line}
-use Rattle.model.specs.Files.{Placed, Passes, Throughout, at}
+use Rattle.model.specs.Files.{Placed, Passes, Throughout}
 use Rattle.model.specs.Cards.{blank, Blanks, FilesAll, Rising, Holds}
-use Rattle.model.specs.Refusals.{Refuses, lined, fault, lines_of, byte_at, others, room, Keeps12, Keeps13}
+use Rattle.model.specs.Refusals.{Refuses, lined, fault, lines_of, byte_at, room, Keeps12, Keeps13}
 use Rattle.model.proofs.Deciding.{refuses_once}
 use Rattle.model.proofs.Filing.{files_named, blanks_start}
 use Rattle.model.proofs.Index.{place_cases}

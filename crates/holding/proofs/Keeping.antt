@@ -1,19 +1,18 @@
 -- Cards that name lines in their order, and fit one another, file entries in order. Assumes nothing.
-use Rattle.std.proofs.Common.{◌≡◌, ℕ, zero, suc, ◌+◌, ◌-◌, ◌<◌, ◌≤◌, ◌⊎◌, List, [], ◌∷◌, ◌++◌, map, length, get_or, Some, None, sym, refl, ap, ◌∙◌, subst, inl, inr, append_assoc, arith}
+use Rattle.std.proofs.Common.{◌≡◌, ℕ, zero, suc, ◌+◌, ◌<◌, ◌≤◌, List, [], ◌∷◌, ◌++◌, length, None, sym, refl, ap, ◌∙◌, subst, inl, inr, arith}
 use lib.ListN.{length-map}
 use Rattle.std.specs.List.{AllByRecursion, ContainsAt as Has}
 use Rattle.std.specs.Str.{bytes_eq}
-use Rattle.std.proofs.ByRecursion.{All-append, All-from_get_or, All-get_or}
+use Rattle.std.proofs.ByRecursion.{All-append, All-from_get_or}
 use Rattle.std.proofs.lemmas.Slice.Eq.{bytes_eq-Decides}
 use Rattle.std.proofs.lemmas.Bool.{cases_lt, cases_order, cond_both}
 use Rattle.model.specs.declared.Card.{Card}
 use Rattle.model.specs.declared.State.{State}
 use Rattle.model.specs.declared.State.TheVariants.{Filed, Voided, Emptied, Blank}
 use Rattle.model.specs.Lines.{Line, GoodLine, nothing, line_of}
-use Rattle.model.specs.Lines as model
-use Rattle.model.specs.Datasets.{HEAD, TRLR, CONT, Payload, none, text, void, pointer, Entry, entry, text_value, first_value, further, continuations, entry_lines, all_lines, OwnTag}
+use Rattle.model.specs.Datasets.{HEAD, TRLR, CONT, Payload, none, text, void, pointer, Entry, entry, text_value, first_value, further, entry_lines, all_lines, OwnTag}
 use Rattle.model.specs.Files.{Placed, GoodPlaced, Lined, InPlace, bytes_of, at, IsPointer, Passes}
-use Rattle.model.specs.Cards.{blank, Points, after, Allowed, StandsAt, Files, FilesAll, Rising}
+use Rattle.model.specs.Cards.{blank, Points, after, Allowed, StandsAt, Files, FilesAll}
 use Rattle.model.specs.Refusals.{lines_of, byte_at}
 use Rattle.model.proofs.Filing.{bytes_positive}
 use Rattle.model.proofs.Names.{has_cons, has_here, has_there, every_left, every_right}
@@ -23,7 +22,7 @@ use Rattle.model.proofs.Ordering.{own_line}
 use Rattle.model.proofs.Reading.{filed, card_of, files_from}
 use Rattle.model.proofs.Walking.{Shallow, head_not_trlr}
 use Rattle.looking.proofs.Placing.{Stood, stood}
-use Rattle.holding.specs.Standing.{card, LineOn, OnLine, OnLines, AllowedValue, Top, Followed, FitsAt, Fits}
+use Rattle.holding.specs.Standing.{card, LineOn, OnLine, OnLines, AllowedValue, Top, FitsAt, Fits}
 use Rattle.holding.proofs.Merging.{later}
 use Rattle.holding.proofs.Groups.{ordered_grown}
 use Rattle.holding.proofs.Fitted.{line_on}

@@ -1,18 +1,18 @@
 -- Cards beside the lines of a file, one line after the other. Assumes nothing.
-use Rattle.std.proofs.Common.{◌≡◌, ℕ, zero, suc, ◌+◌, ◌-◌, ◌<◌, ◌≤◌, Bool, true, false, cond, ◌⊎◌, List, [], ◌∷◌, ◌++◌, map, length, get_or, None, Decides, sym, refl, ap, ◌∙◌, subst, inl, inr, true≢false, append_assoc, append-nil, arith, length-append}
+use Rattle.std.proofs.Common.{◌≡◌, ℕ, zero, suc, ◌+◌, ◌-◌, ◌<◌, ◌≤◌, Bool, cond, ◌⊎◌, List, [], ◌∷◌, ◌++◌, map, length, get_or, Decides, sym, refl, ap, ◌∙◌, subst, inl, inr, append_assoc, append-nil, arith, length-append}
 use mathlib.Core.List.{map-append}
 use lib.ListN.{length-map}
 use Rattle.std.proofs.lemmas.List.{get_or-append-add, get_or_append_left, length_push}
 use Rattle.std.proofs.lemmas.Bool.{cases_lt, cases_eq}
 use Rattle.model.specs.declared.Card.{Card}
-use Rattle.model.specs.Lines.{Line, nothing, line_of}
+use Rattle.model.specs.Lines.{Line}
 use Rattle.model.specs.Datasets.{CONT}
 use Rattle.model.specs.Files.{Placed, Lined, InPlace, bytes_of, at}
 use Rattle.model.specs.Refusals.{lines_of, byte_at}
 use Rattle.model.specs.LineTurns.{is_marked}
 use Rattle.model.proofs.Filing.{bytes_positive}
 use Rattle.lines.specs.declared.steps.Found.{Found}
-use Rattle.lines.specs.Steps.{Comes, NoLineAt}
+use Rattle.lines.specs.Steps.{Comes}
 use Rattle.looking.proofs.Left.{Left, Came, left_start, left_comes, left_end}
 use Rattle.looking.proofs.Placing.{byte_there, line_there}
 use Rattle.holding.specs.Standing.{card, OnLine, OnLines}

@@ -1,6 +1,5 @@
 -- Whether the cards of a drawer name lines of a file in their order, and fit one another. Assumes nothing.
 use Rattle.std.specs.Prelude.{◌≡◌, ℕ, ◌+◌, ◌<◌, ◌≤◌, List, length, ◌≢◌, slice_index_or}
-use Rattle.std.specs.List.{AllByRecursion}
 use Rattle.model.specs.declared.Card.{Card}
 use Rattle.model.specs.declared.State.{State}
 use Rattle.model.specs.declared.State.TheVariants.{Filed, Voided, Emptied, Blank}

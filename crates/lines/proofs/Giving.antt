@@ -1,11 +1,11 @@
 -- What a cursor comes to, by the lines that came before. Assumes nothing.
-use Rattle.std.proofs.Common.{◌≡◌, ℕ, ◌+◌, List, [], ◌∷◌, ◌++◌, length, drop, sym, refl, ap, ◌∙◌, subst, inl, inr}
+use Rattle.std.proofs.Common.{◌≡◌, ℕ, ◌+◌, List, [], ◌∷◌, ◌++◌, length, drop, sym, ap, ◌∙◌, subst, inl, inr}
 use Rattle.std.specs.List.{prefix_len}
 use Rattle.std.proofs.lemmas.List.{drop_all, drop-drop}
 use Rattle.model.specs.Files.{Placed}
 use Rattle.model.specs.Refusals.{Unlined}
 use Rattle.model.specs.Scan.{in_line}
-use Rattle.model.specs.LineTurns.{Scanned, line_end, next_line, found_at}
+use Rattle.model.specs.LineTurns.{Scanned, line_end, found_at}
 use Rattle.model.proofs.Cutting.{no_line_spelled, no_line_ended}
 use Rattle.model.proofs.LineTurns.{scanned_more, scanned_unlined}
 use Rattle.lines.specs.declared.steps.Found.{Found}

@@ -1,6 +1,5 @@
 -- The reader of a line, step by step. Assumes nothing.
-use Rattle.std.proofs.Common.{◌≡◌, ℕ, min, List, Some, None, Option, sym, ap, ◌∙◌, subst}
-use Rattle.std.specs.Option.{option_map}
+use Rattle.std.proofs.Common.{◌≡◌, ℕ, List, Some, None, Option, sym, ap, ◌∙◌, subst}
 use Rattle.model.specs.Lines.{Value, line_of, TextLine}
 use Rattle.model.specs.Lines as model
 use Rattle.model.specs.Removal.{then}

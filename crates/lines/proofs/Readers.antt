@@ -1,12 +1,12 @@
 -- The readers of a line's parts, case by case. Assumes nothing.
-use Rattle.std.proofs.Common.{◌≡◌, ℕ, ◌<◌, Bool, true, false, cond, eqb, List, [], ◌∷◌, ◌++◌, length, get_or, drop, Some, None, codes, Decides, Option, sym, refl, ap, ◌∙◌, subst, inl, inr, arith, eq-eqb}
+use Rattle.std.proofs.Common.{◌≡◌, ℕ, ◌<◌, true, false, cond, eqb, List, [], ◌∷◌, length, get_or, drop, Some, None, codes, Decides, sym, refl, ap, ◌∙◌, inl, inr, arith, eq-eqb}
 use mathlib.Core.List.{append_cancel_right}
 use Rattle.std.proofs.lemmas.Slice.Eq.{bytes_eq-Decides}
 use Rattle.std.proofs.lemmas.Bool.{cond-true, cond-false, cases_Bool}
-use Rattle.std.proofs.lemmas.Bool.Decides.{nat_tests, not_from_Decides}
-use Rattle.model.specs.Lines.{Value, nothing, void, pointer, text, VOID}
+use Rattle.std.proofs.lemmas.Bool.Decides.{nat_tests}
+use Rattle.model.specs.Lines.{void, pointer, text, VOID}
 use Rattle.model.specs.Removal.{then}
-use Rattle.model.specs.Scan.{read_byte, is_name, read_name, marked, is_void, named, read_identifier, pointed, read_marked, read_payload, read_value}
+use Rattle.model.specs.Scan.{read_byte, is_name, read_name, marked, is_void, named, read_identifier, pointed, read_marked, read_payload}
 
 pub first_is : (b : ℕ) (bs : List ℕ) → 0 < b → get_or bs 0 0 ≡ b → (cs : List ℕ) × (bs ≡ b ∷ cs)
 first_is b [] h e = absurd (omega arith)

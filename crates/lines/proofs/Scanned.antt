@@ -1,15 +1,14 @@
 -- One line more in the scan of a file, its start and its ends. Assumes nothing.
-use Rattle.std.proofs.Common.{◌≡◌, ℕ, zero, suc, ◌+◌, ◌<◌, ◌≤◌, min, max, Bool, true, false, cond, eqb, ◌⊎◌, List, [], ◌∷◌, ◌++◌, map, length, get_or, drop, Some, None, Option, sym, refl, ap, ◌∙◌, subst, inl, inr, arith}
-use Rattle.std.specs.Option.{option_map}
+use Rattle.std.proofs.Common.{◌≡◌, ℕ, zero, suc, ◌+◌, ◌<◌, ◌≤◌, min, max, false, cond, eqb, List, [], ◌∷◌, ◌++◌, length, Some, None, Option, sym, refl, ap, ◌∙◌, subst, inl, inr, arith}
 use Rattle.std.proofs.lemmas.List.{map-append}
 use Rattle.std.proofs.lemmas.Bool.{cond_both}
 use Rattle.model.specs.declared.Place.{Place}
 use Rattle.model.specs.declared.Fault.{Fault}
 use Rattle.model.specs.Characters.{Clean}
 use Rattle.model.specs.Books.{Meaning}
-use Rattle.model.specs.Lines.{Line, nothing, line_of}
-use Rattle.model.specs.Files.{Placed, Passes, at}
-use Rattle.model.specs.Refusals.{Short, Refuses, lined, fault, lines_of, others}
+use Rattle.model.specs.Lines.{Line}
+use Rattle.model.specs.Files.{Placed, at}
+use Rattle.model.specs.Refusals.{Short, Refuses, lined, fault, lines_of}
 use Rattle.model.specs.LineTurns as turns
 use Rattle.model.proofs.Scans.{turn_start, turn_step, turn_spelled, turn_ended, turn_bare, turn_lined}
 use Rattle.model.proofs.Noting.{ruled_verdict, kept_ordered}

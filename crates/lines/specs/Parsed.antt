@@ -1,8 +1,7 @@
 -- What the parts of a line are, and what a line that was read shows. Assumes nothing.
-use Rattle.std.specs.Prelude.{◌≡◌, ℕ, min, Bool, List, [], ◌∷◌, Some, None, Option, MatchOption}
+use Rattle.std.specs.Prelude.{◌≡◌, ℕ, min, Bool, List, ◌∷◌, Some, None, Option, MatchOption}
 use Rattle.std.specs.Borrow.{Bor}
 use Rattle.std.specs.Char.{is_ascii_digit}
-use Rattle.std.specs.Option.{option_map}
 use Rattle.model.specs.Lines.{tag_char}
 use Rattle.model.specs.Scan.{in_line, read_level, read_name, marked, read_tag}
 use Rattle.lines.specs.declared.part.Class.{Class}

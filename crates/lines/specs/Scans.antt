@@ -1,5 +1,5 @@
 -- What the scan of the lines knows, as the definitions have it. Assumes nothing.
-use Rattle.std.specs.Prelude.{◌≡◌, ℕ, ◌+◌, max, false, cond, List, Some, None, Option}
+use Rattle.std.specs.Prelude.{◌≡◌, ℕ, ◌+◌, max, false, None, Option}
 use Rattle.std.specs.Option.{option_map}
 use Rattle.model.specs.Lines as model
 use Rattle.model.specs.LineTurns as turns

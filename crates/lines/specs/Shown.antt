@@ -1,5 +1,5 @@
 -- What a line that was read shows of the line that the bytes spell. Assumes nothing.
-use Rattle.std.specs.Prelude.{◌≡◌, ℕ, min, List, [], ◌∷◌, Some, Option, MatchOption, ◌≢◌, slice_index}
+use Rattle.std.specs.Prelude.{◌≡◌, ℕ, min, List, ◌∷◌, Some, Option, MatchOption, ◌≢◌, slice_index}
 use Rattle.std.specs.Option.{option_map}
 use Rattle.std.specs.declared.option.Option.TheVariants as option
 use Rattle.model.specs.Lines.{Value, nothing, void, pointer, text, GoodLine, TextLine, spell}

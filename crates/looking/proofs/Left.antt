@@ -1,12 +1,12 @@
 -- The lines from a place of a file on, as a cursor comes to them. Assumes nothing.
-use Rattle.std.proofs.Common.{◌≡◌, ℕ, zero, suc, ◌+◌, ◌-◌, ◌<◌, ◌≤◌, true, false, cond, ◌⊎◌, List, [], ◌∷◌, ◌++◌, length, get_or, take, drop, Some, None, sym, refl, ap, ◌∙◌, subst, inl, inr, append-nil, arith, length-append, length-drop, length-take}
+use Rattle.std.proofs.Common.{◌≡◌, ℕ, zero, suc, ◌+◌, ◌-◌, ◌<◌, ◌≤◌, true, false, cond, ◌⊎◌, List, [], ◌∷◌, ◌++◌, length, get_or, take, drop, Some, sym, refl, ap, ◌∙◌, subst, inl, inr, append-nil, arith, length-append, length-drop, length-take}
 use Rattle.std.specs.List.{AllByRecursion, prefix_len}
 use Rattle.std.proofs.lemmas.List.{drop-drop, drop_at, get_or-drop, take_rest}
 use Rattle.std.proofs.lemmas.List.Sums.{prefix_len-le-length}
 use Rattle.std.proofs.lemmas.Bool.{cond-true, cond-false, cases_Bool}
 use Rattle.std.proofs.lemmas.Bool.Decides.{nat_tests}
 use Rattle.model.specs.Datasets.{MARK}
-use Rattle.model.specs.Lines.{Line, spell}
+use Rattle.model.specs.Lines.{spell}
 use Rattle.model.specs.Scan.{front, after, in_line, parse}
 use Rattle.model.specs.Files.{LineEnd, Placed, GoodPlaced, bytes_of, all_bytes, InPlace, Lined, at}
 use Rattle.model.specs.Refusals.{Starts, lines_of, byte_at}
@@ -16,7 +16,6 @@ use Rattle.model.proofs.Options.{never, some_same}
 use Rattle.model.proofs.Lining.{Low, lines_start_low}
 use Rattle.model.proofs.Cutting.{front_spelled, after_spelled}
 use Rattle.model.proofs.Scanning.{parse_complete}
-use Rattle.model.proofs.Filing.{bytes_positive}
 use Rattle.model.proofs.LineTurns.{marked_decides}
 use Rattle.model.proofs.Refusing.{Front, lined_front}
 use Rattle.lines.specs.declared.steps.Found.{Found}

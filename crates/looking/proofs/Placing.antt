@@ -1,5 +1,5 @@
 -- A line by its place among the others: the one behind it, and its number. Assumes nothing.
-use Rattle.std.proofs.Common.{◌≡◌, ℕ, zero, suc, ◌+◌, ◌-◌, ◌<◌, ◌≤◌, Bool, true, false, cond, ◌⊎◌, List, [], ◌∷◌, ◌++◌, map, length, get_or, None, sym, refl, ap, ◌∙◌, subst, inl, inr, append_assoc, arith, length-append}
+use Rattle.std.proofs.Common.{◌≡◌, ℕ, zero, suc, ◌+◌, ◌-◌, ◌<◌, ◌≤◌, cond, List, [], ◌∷◌, ◌++◌, map, length, get_or, None, sym, refl, ap, ◌∙◌, subst, inl, inr, append_assoc, arith, length-append}
 use mathlib.Core.List.{map-append, head-eq_of_cons-eq, tail-eq_of_cons-eq}
 use lib.ListN.{length-map}
 use Rattle.std.proofs.lemmas.List.{get_or_at, length_push}
@@ -10,10 +10,10 @@ use Rattle.model.specs.Cards.{StandsAt}
 use Rattle.model.specs.Refusals.{lines_of, byte_at}
 use Rattle.model.specs.LineTurns.{is_marked, spot, spot_of}
 use Rattle.model.proofs.Parts.{not_nil}
-use Rattle.model.proofs.Filing.{bytes_positive, begins_after}
+use Rattle.model.proofs.Filing.{bytes_positive}
 use Rattle.lines.specs.declared.steps.Found.{Found}
 use Rattle.lines.specs.Steps.{Comes, NoLineAt}
-use Rattle.looking.proofs.Left.{Left, Cut, cut, left_start, left_comes, left_end, left_stuck}
+use Rattle.looking.proofs.Left.{Left, Cut, left_start, left_comes, left_end, left_stuck}
 
 -- The line behind
 

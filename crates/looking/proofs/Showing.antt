@@ -1,19 +1,16 @@
 -- What a card's line shows of its entry. Assumes nothing.
-use Rattle.std.proofs.Common.{◌≡◌, ℕ, ◌+◌, ◌<◌, min, Bool, true, false, cond, ◌⊎◌, List, [], ◌∷◌, length, IsSomeAnd, Some, None, sym, refl, ap, ◌∙◌, subst, inl, inr, true≢false, arith}
-use Rattle.std.specs.Option.{option_map}
-use Rattle.std.proofs.lemmas.Bool.{cases_Bool}
+use Rattle.std.proofs.Common.{◌≡◌, ℕ, Bool, true, false, List, [], ◌∷◌, Some, None, sym, refl, ap, subst, arith}
 use Rattle.model.specs.Lines as model
-use Rattle.model.specs.Datasets.{CONT, Payload, none, text, void, pointer, first_value, further, Entry}
-use Rattle.model.specs.Files.{Placed, Lined, at}
+use Rattle.model.specs.Datasets.{Payload, none, text, void, pointer, first_value, further, Entry}
+use Rattle.model.specs.Files.{Placed, Lined}
 use Rattle.model.specs.Cards.{StandsAt}
-use Rattle.model.specs.Refusals.{lines_of}
 use Rattle.kinds.specs.Contents.{StandsFor}
 use Rattle.lines.specs.declared.line.Line.{Line}
 use Rattle.lines.specs.declared.line.Payload as line
 use Rattle.lines.specs.declared.line.Payload.TheVariants as payload
 use Rattle.lines.specs.Shown.{Shows, value_of}
 use Rattle.looking.specs.Looking.{LineAt, content_by}
-use Rattle.looking.proofs.Placing.{Stood, stood}
+use Rattle.looking.proofs.Placing.{stood}
 
 clash : {A : Type 0} → ◌≡◌ {A = ℕ} 0 1 → A
 clash e = absurd (omega arith)

@@ -1,10 +1,7 @@
 -- A performed reading is exact. Assumes nothing.
-use Rattle.std.proofs.Common.{◌≡◌, ℕ, ◌⊎◌, List, subst, inl, inr}
-use Rattle.model.specs.declared.Card.{Card}
-use Rattle.model.specs.declared.Call.{Call}
-use Rattle.model.specs.declared.Call.TheVariants.{Read}
-use Rattle.model.specs.Books.{Meaning, Lawful}
-use Rattle.model.specs.Calls.{Event, Performs, PerformsEvent}
+use Rattle.std.proofs.Common.{subst, inl, inr}
+use Rattle.model.specs.Books.{Meaning}
+use Rattle.model.specs.Calls.{Performs, PerformsEvent}
 use Rattle.model.specs.Laws.{ReadsExactly, BelongsKept, WrittenHasLines, LinesOnce, Promised}
 use Rattle.model.proofs.Promises.{promises}
 

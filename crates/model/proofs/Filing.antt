@@ -6,7 +6,7 @@ use Rattle.model.specs.declared.Card.{Card}
 use Rattle.model.specs.declared.State.{State}
 use Rattle.model.specs.declared.State.TheVariants.{Filed, Voided, Emptied, Blank}
 use Rattle.model.specs.Lines.{Line}
-use Rattle.model.specs.Datasets.{Payload, Entry, entry, entries, entry_lines, first_value, further, CONT, Dataset, IsDataset, lines}
+use Rattle.model.specs.Datasets.{Payload, Entry, entry, entries, entry_lines, first_value, further, CONT, Dataset, IsDataset}
 use Rattle.model.specs.Files.{Placed, bytes_of, InPlace, HasLines}
 use Rattle.model.specs.Cards.{Blanks, after, Allowed, StandsAt, Files, FilesAll, Holds}
 use Rattle.model.proofs.Parts.{Begins, clash, part_once}

@@ -4,8 +4,7 @@ use Rattle.std.proofs.lemmas.List.{drop_all, drop_more}
 use Rattle.std.proofs.lemmas.Bool.{cases_lt, cond-true, cond-false, eq-eqb, ne_eqb, lt-ltb, le-ltb}
 use Rattle.model.specs.declared.Context.{Context}
 use Rattle.model.specs.declared.Context.TheVariants.{Top}
-use Rattle.model.specs.declared.Edit.{Edit}
-use Rattle.model.specs.declared.Edit.TheVariants.{Withheld, Deleted, Cleared}
+use Rattle.model.specs.declared.Edit.TheVariants.{Withheld}
 use Rattle.model.specs.Books.{Meaning}
 use Rattle.model.specs.Datasets.{none, Structures, end, next, Record, Dataset, HEAD, TRLR, tops, Entry, entry, entries_at, entries_of, entries}
 use Rattle.model.specs.Rules.{below, typed, types_of, top_types}

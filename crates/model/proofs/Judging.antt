@@ -12,7 +12,7 @@ use Rattle.model.specs.Datasets.{none, end, Dataset, tops, entries_of, entries, 
 use Rattle.model.specs.Files.{Placed, bytes_of, InPlace}
 use Rattle.model.specs.Rules.{top_types, Situation, situations, NeedsMet, Belongs}
 use Rattle.model.specs.Edits.{body}
-use Rattle.model.specs.Refusals.{fault, First, lines_of, byte_at, others, BreaksBook, BreaksTop, BreaksNeeds, BookRule, known, taken, aimed_right, single, needed, filled, BookKeeps, TopKeeps, BookTells, BookRefusal, Refuses, booked}
+use Rattle.model.specs.Refusals.{First, lines_of, byte_at, others, BreaksBook, BreaksTop, BreaksNeeds, BookRule, known, taken, aimed_right, single, needed, filled, BookKeeps, TopKeeps, BookTells, BookRefusal, Refuses, booked}
 use Rattle.model.specs.declared.Fault.{Fault}
 use Rattle.model.specs.Positions.{within, row_at, under_at, top_at, NeedMet, KeepsAt, AllKeep, TopMet, Lacks, Finding, finding, TopAt, BrokenAt, Finds, FindsNone, Told, fault_of}
 use Rattle.model.proofs.Flat.{body_is}

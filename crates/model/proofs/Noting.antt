@@ -4,7 +4,6 @@ use lib.ListN.{length-map}
 use Rattle.std.proofs.lemmas.List.{get_or_append_left, get_or_push, map_push, length_push}
 use Rattle.std.proofs.lemmas.Bool.{cases_Bool, cases_lt, cond_both, both_ways, not-true, not-false, and_parts, and_cases, or_cases, or_parts, ltb-true, ltb-false, eqb-true, eqb-false}
 use Rattle.std.proofs.lemmas.Bool.Decides.{Decides-and, Decides-eqb, Decides-like, Decides-not, nat_tests}
-use Rattle.std.specs.Str.{bytes_eq}
 use Rattle.std.proofs.lemmas.Slice.Eq.{bytes_eq-Decides}
 use Rattle.model.specs.Lines.{Line, Value, nothing, void, pointer, text, line_of}
 use Rattle.model.specs.Datasets.{HEAD, TRLR, CONT, CONC}

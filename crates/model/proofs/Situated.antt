@@ -8,7 +8,7 @@ use Rattle.model.specs.declared.Context.{Context}
 use Rattle.model.specs.declared.Context.TheVariants.{Top, Under}
 use Rattle.model.specs.declared.Row.{Row}
 use Rattle.model.specs.Books.{Meaning}
-use Rattle.model.specs.Datasets.{Structures, end, next, Record, Dataset, tops, Entry, entry, entries_of}
+use Rattle.model.specs.Datasets.{Structures, end, next, Record, Dataset, tops, Entry, entries_of}
 use Rattle.model.specs.Kinds.{Takes}
 use Rattle.model.specs.Rules.{below, typed, types_of, top_types, Situation, situations, NamesType}
 use Rattle.model.specs.Edits.{no_entry}

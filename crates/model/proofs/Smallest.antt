@@ -1,21 +1,18 @@
 -- The smallest tree: its file, its cards, and the refusal of the file that is one byte short. Assumes nothing.
-use Rattle.std.proofs.Common.{◌≡◌, ℕ, zero, suc, ◌<◌, not, T, List, [], ◌∷◌, ◌++◌, length, take, Some, None, codes, Option, sym, refl, ap, ◌∙◌, subst, inl, inr, arith, lit<, lit≤}
+use Rattle.std.proofs.Common.{◌≡◌, ℕ, zero, suc, not, T, List, [], ◌∷◌, take, Some, None, codes, refl, subst, inl, arith, lit<, lit≤}
 use lib.Utf8.{encode}
 use Rattle.std.specs.List.{ContainsAt as Has}
-use Rattle.std.proofs.lemmas.Bool.Decides.{not_from_Decides}
-use Rattle.model.specs.declared.Context.{Context}
-use Rattle.model.specs.declared.Context.TheVariants.{Top, Under}
 use Rattle.model.specs.Characters.{Clean}
 use Rattle.model.specs.Lines.{Line, GoodLine, line_of}
 use Rattle.model.specs.Lines as line
-use Rattle.model.specs.Datasets.{none, text, end, Structures, IsDataset, entry, lines, HEAD, TRLR, MARK}
-use Rattle.model.specs.Files.{Placed, Lined, HasLines}
+use Rattle.model.specs.Datasets.{none, IsDataset, entry, HEAD, TRLR, MARK}
+use Rattle.model.specs.Files.{Placed, Lined}
 use Rattle.model.specs.Tables.{home}
 use Rattle.model.specs.Rules.{Belongs}
 use Rattle.model.specs.Refusals.{Starts, Refuses, fault}
-use Rattle.model.specs.LineTurns.{is_marked, Scanned, found_at}
+use Rattle.model.specs.LineTurns.{is_marked, found_at}
 use Rattle.model.specs.Examples.{smallest_file, smallest, words_of, SmallestTree}
-use Rattle.model.proofs.Members.{has_here, has_none}
+use Rattle.model.proofs.Members.{has_here}
 use Rattle.model.proofs.LineTurns.{marked_decides, scanned_start, scanned_more, scanned_lined, refused_ended}
 use Rattle.model.proofs.Witness.{own_tag, no_need}
 

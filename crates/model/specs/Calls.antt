@@ -1,11 +1,11 @@
 -- What each call does to any drawer. Assumes nothing.
-use Rattle.std.specs.Prelude.{◌≡◌, ℕ, ◌<◌, ◌≤◌, Bool, true, false, ◌⊎◌, List, [], ◌∷◌, ◌++◌, length, Some, None, Option}
-use Rattle.std.specs.List.{ContainsAt as Has, AllByRecursion}
+use Rattle.std.specs.Prelude.{◌≡◌, ℕ, ◌⊎◌, List, length, Some, None, Option}
+use Rattle.std.specs.List.{AllByRecursion}
 use Rattle.model.specs.declared.Card.{Card}
-use Rattle.model.specs.declared.State.TheVariants.{Filed, Blank}
+use Rattle.model.specs.declared.State.TheVariants.{Filed}
 use Rattle.model.specs.declared.Call.{Call}
 use Rattle.model.specs.declared.Call.TheVariants.{Read, Remove, Open, Count, Look, More, Size, Write}
-use Rattle.model.specs.Datasets.{Dataset, IsDataset, written}
+use Rattle.model.specs.Datasets.{Dataset, IsDataset}
 use Rattle.model.specs.Books.{Meaning}
 use Rattle.model.specs.Files.{HasLines}
 use Rattle.model.specs.Rules.{Belongs}

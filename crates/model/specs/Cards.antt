@@ -1,12 +1,10 @@
 -- What a drawer holds. Assumes nothing.
-use Rattle.std.specs.Prelude.{◌≡◌, ℕ, ◌<◌, ◌≤◌, Bool, true, false, ◌⊎◌, List, [], ◌∷◌, ◌++◌, map, length, ◌≢◌}
-use Rattle.std.specs.List.{ContainsAt as Has, AllByRecursion}
+use Rattle.std.specs.Prelude.{◌≡◌, ℕ, ◌<◌, ◌≤◌, List, [], ◌∷◌, ◌++◌, map, length, ◌≢◌}
+use Rattle.std.specs.List.{AllByRecursion}
 use Rattle.model.specs.declared.Card.{Card}
 use Rattle.model.specs.declared.State.{State}
 use Rattle.model.specs.declared.State.TheVariants.{Filed, Voided, Emptied, Blank}
-use Rattle.model.specs.Lines.{Line, Value}
-use Rattle.model.specs.Lines as line
-use Rattle.model.specs.Datasets.{CONT, Payload, none, text, void, pointer, Entry, entry, entries, all_lines, entry_lines, Dataset, IsDataset, lines}
+use Rattle.model.specs.Datasets.{CONT, Payload, none, text, void, pointer, Entry, entry, entries, entry_lines, Dataset, IsDataset}
 use Rattle.model.specs.Files.{Placed, Passes}
 
 -- the number of each state

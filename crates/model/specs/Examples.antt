@@ -1,5 +1,5 @@
 -- The definitions by example: payloads, lines, the smallest tree, and a removal for each clause of its rules. Assumes nothing.
-use Rattle.std.specs.Prelude.{◌≡◌, ℕ, true, false, List, [], ◌∷◌, ◌++◌, length, take, Some, None, codes, Option, ◌≢◌}
+use Rattle.std.specs.Prelude.{◌≡◌, ℕ, true, List, [], ◌∷◌, ◌++◌, length, take, Some, None, codes, ◌≢◌}
 use Prim.Native.String.{String}
 use Rattle.model.specs.declared.Context.{Context}
 use Rattle.model.specs.declared.Context.TheVariants.{Top, Under}

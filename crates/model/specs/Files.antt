@@ -1,9 +1,9 @@
 -- The lines of a file, and the rules that they keep without a book. Assumes nothing.
-use Rattle.std.specs.Prelude.{◌≡◌, ℕ, ◌+◌, ◌^◌, ◌<◌, ◌≤◌, Bool, true, false, cond, not, ◌&&◌, ◌||◌, ◌⊎◌, List, [], ◌∷◌, ◌++◌, map, length, Some, None, Option, ◌≢◌, slice_index_or}
+use Rattle.std.specs.Prelude.{◌≡◌, ℕ, ◌+◌, ◌<◌, ◌≤◌, ◌⊎◌, List, [], ◌∷◌, ◌++◌, map, length, None, ◌≢◌, slice_index_or}
 use Rattle.std.specs.List.{AllByRecursion}
 use Rattle.model.specs.Characters.{Clean}
 use Rattle.model.specs.Lines.{Line, Value, GoodLine, spell, nothing, void, pointer, text, line_of}
-use Rattle.model.specs.Datasets.{MARK, HEAD, TRLR, CONT, CONC, Dataset, IsDataset, lines}
+use Rattle.model.specs.Datasets.{MARK, HEAD, TRLR, CONT, CONC, Dataset, lines}
 
 -- CR LF, CR or LF
 abbrev pub LineEnd : List ℕ → Type 0

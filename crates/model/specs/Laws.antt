@@ -1,5 +1,5 @@
 -- The promises over whole runs. Assumes nothing.
-use Rattle.std.specs.Prelude.{◌≡◌, ℕ, ◌+◌, ◌<◌, ◌≤◌, ◌⊎◌, List, [], ◌∷◌, ◌++◌, map, length, take, Some, None, Option, ◌≢◌}
+use Rattle.std.specs.Prelude.{◌≡◌, ℕ, ◌+◌, ◌<◌, ◌≤◌, ◌⊎◌, List, [], ◌∷◌, ◌++◌, map, length, take, Some, None, ◌≢◌}
 use Rattle.std.specs.List.{AllByRecursion}
 use Rattle.model.specs.declared.Card.{Card}
 use Rattle.model.specs.declared.Call.{Call}

@@ -1,13 +1,13 @@
 -- Which refusal a reading gets, and where. Assumes nothing.
-use Rattle.std.specs.Prelude.{◌≡◌, ℕ, ◌+◌, ◌<◌, ◌≤◌, min, Bool, true, false, cond, not, ◌&&◌, ◌||◌, ◌⊎◌, List, [], ◌∷◌, ◌++◌, map, length, take, drop, Some, None, IsUtf8, Option, ◌==◌, ◌≢◌, slice_index}
+use Rattle.std.specs.Prelude.{◌≡◌, ℕ, ◌+◌, ◌<◌, ◌≤◌, min, Bool, true, cond, not, ◌&&◌, ◌||◌, ◌⊎◌, List, [], ◌∷◌, ◌++◌, map, length, take, drop, Some, None, IsUtf8, ◌==◌, ◌≢◌, slice_index}
 use Rattle.std.proofs.Math.Utf8.{scalar, encode}
 use Rattle.std.specs.Str.{IsValidUpTo, bytes_eq}
 use Rattle.std.specs.List.{ContainsAt as Has, AllByRecursion}
 use Rattle.model.specs.Characters.{Clean, banned}
-use Rattle.model.specs.Lines.{Line, Value, pointer}
+use Rattle.model.specs.Lines.{Line, pointer}
 use Rattle.model.specs.Datasets.{Dataset, IsDataset, MARK, CONT, tops, lines}
 use Rattle.model.specs.Books.{Meaning}
-use Rattle.model.specs.Files.{Placed, Lined, GoodPlaced, InPlace, bytes_of, all_bytes, at, Keeps5, Keeps6, Keeps7, Keeps8, Keeps9, Keeps10, Throughout, Passes, HasLines}
+use Rattle.model.specs.Files.{Placed, Lined, GoodPlaced, InPlace, bytes_of, all_bytes, at, Keeps5, Keeps6, Keeps7, Keeps8, Keeps9, Keeps10, Passes}
 use Rattle.model.specs.Rules.{Situation, situations, Keeps14, Keeps15, Keeps16, Keeps17, Keeps18, Keeps19, NeedsMet, types_of, top_types}
 use Rattle.model.specs.declared.Context.TheVariants.{Top}
 use Rattle.model.specs.declared.Fault.{Fault}

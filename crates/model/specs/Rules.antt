@@ -1,10 +1,9 @@
 -- When a dataset belongs to a book. Assumes nothing.
-use Rattle.std.specs.Prelude.{◌≡◌, ℕ, ◌<◌, Bool, true, false, ◌&&◌, ◌⊎◌, List, [], ◌∷◌, ◌++◌, IfSome, IfNone, Some, None, Option}
+use Rattle.std.specs.Prelude.{◌≡◌, ℕ, Bool, true, false, ◌⊎◌, List, [], ◌∷◌, ◌++◌, IfSome, IfNone, Some, None, Option}
 use Rattle.std.specs.List.{ContainsAt as Has, AllByRecursion}
 use Rattle.model.specs.declared.Context.{Context}
 use Rattle.model.specs.declared.Context.TheVariants.{Top, Under}
 use Rattle.model.specs.declared.Row.{Row}
-use Rattle.model.specs.declared.Kind.{Kind}
 use Rattle.model.specs.declared.Kind.TheVariants.{Pointer}
 use Rattle.model.specs.Books.{Meaning}
 use Rattle.model.specs.Datasets.{Payload, none, pointer, Structures, end, next, Record, Dataset, tops}

@@ -1,14 +1,12 @@
 -- What any turn of the calls does, by the dataset alone. Assumes nothing.
-use Rattle.std.specs.Prelude.{◌≡◌, ℕ, ◌+◌, ◌-◌, ◌<◌, ◌≤◌, min, Bool, true, false, cond, ◌&&◌, ◌||◌, ◌⊎◌, List, [], ◌∷◌, ◌++◌, length, drop, Some, None, Option, ◌==◌, nat_le, nat_lt}
-use Rattle.std.specs.List.{slice_get, AllByRecursion}
-use Rattle.model.specs.declared.Card.{Card}
+use Rattle.std.specs.Prelude.{◌≡◌, ℕ, ◌+◌, ◌-◌, ◌≤◌, min, cond, ◌||◌, List, [], ◌++◌, length, drop, Some, None, Option, ◌==◌, nat_le, nat_lt}
+use Rattle.std.specs.List.{slice_get}
 use Rattle.model.specs.declared.Call.{Call}
 use Rattle.model.specs.declared.Call.TheVariants.{Read, Remove, Open, Count, Look, More, Size, Write}
 use Rattle.model.specs.Datasets.{Payload, none, text, void, pointer, further, Dataset, IsDataset, Entry, entry, entries, written}
 use Rattle.model.specs.Books.{Meaning}
 use Rattle.model.specs.Files.{HasLines}
 use Rattle.model.specs.Rules.{Belongs}
-use Rattle.model.specs.Cards.{Holds, Blanks}
 use Rattle.model.specs.Removal.{removed, card_count}
 use Rattle.model.specs.Refusals.{fault}
 use Rattle.model.specs.declared.Fault.{Fault}

@@ -1,12 +1,11 @@
 -- The index of identifiers: how it is collected, and what is found in it. Assumes nothing.
-use Rattle.std.proofs.Common.{◌≡◌, ℕ, ◌+◌, ◌-◌, ◌<◌, ◌≤◌, Bool, true, false, ◌⊎◌, List, [], ◌∷◌, ◌++◌, map, length, get_or, take, set, Some, None, Option, Ordering, Less, Equal, Greater, sym, refl, ap, ◌∙◌, subst, inl, inr, true≢false, arith, Bor}
+use Rattle.std.proofs.Common.{◌≡◌, ℕ, ◌+◌, ◌-◌, ◌<◌, ◌≤◌, ◌⊎◌, List, [], ◌∷◌, map, length, get_or, take, Some, None, Option, Ordering, Less, Equal, Greater, sym, refl, ap, ◌∙◌, subst, inl, inr, true≢false, arith, Bor}
 use lib.ListN.{length-map}
 use Rattle.std.specs.Cmp.{nat_cmp_total, ranks, on_total, then_total}
 use Rattle.std.specs.Cmp.Lexicographic.{slice_cmp, lists_total}
 use Rattle.std.specs.Option.{option_map}
-use Rattle.std.specs.Ordering.{is_lt, is_gt, is_eq, ordering_reverse, ordering_then, ordering_index, MatchOrdering, nat_cmp}
-use Rattle.std.specs.List.Sorted.{IsPartitionPoint, IsNonDecreasingBy, IsPermutation, IsSortedWithin}
-use Rattle.std.specs.List.{AllByRecursion}
+use Rattle.std.specs.Ordering.{is_lt, is_gt, ordering_reverse, ordering_then, ordering_index, MatchOrdering, nat_cmp}
+use Rattle.std.specs.List.Sorted.{IsPartitionPoint, IsNonDecreasingBy, IsPermutation}
 use Rattle.std.proofs.ByRecursion.{All-get_or}
 use Rattle.std.proofs.lemmas.List.MinMax.{ranks_by}
 use Rattle.std.proofs.lemmas.List.{take_more_set, get_or-map, get_or_default}
@@ -18,7 +17,6 @@ use Rattle.model.specs.Files.{Placed}
 use Rattle.model.specs.Refusals.{lines_of, others, apart, aimed, Keeps13, LineKeeps}
 use Rattle.model.specs.LineTurns.{Noted, RulesKept}
 use Rattle.model.specs.Index.{place_of, card_line, card_spot, key, name_of, CardsNoted, Indexed, LeastRepeat}
-use Rattle.model.proofs.Options.{never}
 use Rattle.model.proofs.Index.{apart_noted, card_aimed, card_lost, card_pointless, aimed_noted, least_same}
 use Rattle.model.proofs.Sorting.{Collected, collected_none, collected_skip, collected_more, collected_shuffled, sorted_indexed, byte_strict, byte_total}
 use Rattle.naming.specs.Naming.{Name, ByteLess, InOrder, IndexOf, Notes, LeastName, Target, FindsName, TargetOf, CardShows}

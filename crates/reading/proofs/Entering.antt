@@ -1,23 +1,20 @@
 -- What a card of entered cards says of its entry. Assumes nothing.
-use Rattle.std.proofs.Common.{◌≡◌, ℕ, zero, suc, ◌+◌, ◌-◌, ◌<◌, ◌≤◌, ◌⊎◌, List, [], ◌∷◌, length, get_or, Some, None, Option, sym, refl, ap, ◌∙◌, subst, inl, inr, arith, length-append, Bor}
-use Rattle.std.specs.List.{AllByRecursion}
+use Rattle.std.proofs.Common.{◌≡◌, ℕ, zero, suc, ◌-◌, ◌<◌, ◌≤◌, List, [], ◌∷◌, length, get_or, Some, None, Option, sym, ap, ◌∙◌, subst, inl, inr, arith, length-append, Bor}
 use Rattle.std.proofs.ByRecursion.{All-get_or}
 use Rattle.std.proofs.lemmas.List.{get_or_at}
 use Rattle.std.proofs.lemmas.Bool.{cases_lt}
 use Rattle.model.proofs.Options.{never}
 use Rattle.model.specs.declared.Card.{Card}
-use Rattle.model.specs.Datasets.{Payload, none, text, void, pointer, Dataset, IsDataset, Entry, entries, entries_of, tops, entry, TRLR, identifiers, GoodPayload}
+use Rattle.model.specs.Datasets.{none, text, pointer, Dataset, Entry, entries, entries_of, tops, entry, TRLR, identifiers, GoodPayload}
 use Rattle.model.specs.Cards.{Files, FilesAll}
-use Rattle.model.specs.Edits.{no_entry, body}
-use Rattle.model.specs.Files.{Placed, Lined}
-use Rattle.model.specs.Positions.{Sound}
+use Rattle.model.specs.Edits.{no_entry}
+use Rattle.model.specs.Files.{Placed}
 use Rattle.model.specs.Tables.{plain}
 use Rattle.model.proofs.Drawers.{files_long}
 use Rattle.model.proofs.Turns.{dataset_sound, body_at, length_body}
-use Rattle.naming.specs.Naming.{Name, InOrder, FindsName}
-use Rattle.judging.specs.Entries.{Targets, Names}
-use Rattle.reading.specs.Entered.{Entering, Enters}
-use Rattle.reading.specs.Entered as entered
+use Rattle.naming.specs.Naming.{Name, FindsName}
+use Rattle.judging.specs.Entries.{Targets}
+use Rattle.reading.specs.Entered.{Enters}
 
 files_at : (ps : List Placed) (cs : List Card) (es : List Entry) → FilesAll ps cs es → (i : ℕ) (c : Card) (e : Entry) → i < length es → Files ps (get_or cs i c) (get_or es i e)
 files_at ps [] [] f i c e h = absurd (omega arith)

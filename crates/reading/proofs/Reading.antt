@@ -1,26 +1,23 @@
 -- What the parts of a reading find, and so its answer. Assumes nothing.
-use Rattle.std.proofs.Common.{◌≡◌, ℕ, ◌+◌, ◌-◌, ◌<◌, ◌≤◌, min, ◌⊎◌, List, [], ◌∷◌, ◌++◌, map, length, get_or, take, Some, None, Ok, Err, Option, Result, sym, refl, ap, ◌∙◌, subst, inl, inr, arith, length-take}
+use Rattle.std.proofs.Common.{◌≡◌, ℕ, ◌+◌, ◌-◌, ◌<◌, ◌≤◌, min, List, [], ◌++◌, length, get_or, take, Some, None, Ok, Err, Result, sym, refl, ap, ◌∙◌, subst, inl, inr, arith, length-take}
 use lib.ListN.{length-map}
-use Rattle.std.specs.List.{AllByRecursion}
 use Rattle.std.proofs.ByRecursion.{All-get_or, All-weaker}
 use Rattle.std.proofs.lemmas.List.{get_or_past, get_or-map, take_all, take_at}
 use Rattle.std.proofs.lemmas.Bool.{cases_lt}
 use Rattle.model.specs.declared.Card.{Card}
 use Rattle.model.specs.declared.Place.{Place}
-use Rattle.model.specs.declared.Fault.{Fault}
 use Rattle.model.specs.Lines.{Line, nothing, pointer}
-use Rattle.model.specs.Datasets.{Dataset, IsDataset, Entry, entries, lines}
+use Rattle.model.specs.Datasets.{Dataset, IsDataset, entries, lines}
 use Rattle.model.specs.Books.{Meaning}
 use Rattle.model.specs.Rules.{Belongs}
 use Rattle.model.specs.Cards.{FilesAll, Blanks}
-use Rattle.model.specs.Files.{Placed, Lined, Passes, at}
-use Rattle.model.specs.Removal.{card_count}
+use Rattle.model.specs.Files.{Placed, Passes, at}
 use Rattle.model.specs.Edits.{no_entry, body}
 use Rattle.model.specs.Refusals.{Refuses, lined, fault, lines_of, byte_at, others, Keeps11, Keeps12, Keeps13, First, LineRule, levels, first, last, steps, named, continued, room, apart, aimed, LineKeeps, LinesKeep}
 use Rattle.model.specs.LineTurns.{spot_of, Noted, RulesKept}
 use Rattle.model.specs.Index.{place_of, card_line, card_spot}
-use Rattle.model.specs.Positions.{FindsNone, Told}
-use Rattle.model.proofs.Options.{some_same, never}
+use Rattle.model.specs.Positions.{FindsNone}
+use Rattle.model.proofs.Options.{some_same}
 use Rattle.model.proofs.Noting.{kept_next, kept_all, refusal}
 use Rattle.model.proofs.Answering.{Read, kept_read, others_within, room_kept as kept-few, accepted, declined}
 use Rattle.model.proofs.Reading.{files_from, filed_others, others_count, others_line}

@@ -1,19 +1,18 @@
 -- What a reading answers, and what its parts find. Assumes nothing.
-use Rattle.std.specs.Prelude.{◌≡◌, ℕ, ◌+◌, ◌<◌, ◌≤◌, List, ◌++◌, length, Ok, Err, Result, slice_index_or}
+use Rattle.std.specs.Prelude.{◌≡◌, ℕ, ◌<◌, ◌≤◌, List, length, Ok, Err, Result, slice_index_or}
 use Rattle.model.specs.declared.Card.{Card}
 use Rattle.model.specs.declared.Place.{Place}
-use Rattle.model.specs.Books.{Meaning, Lawful}
+use Rattle.model.specs.Books.{Meaning}
 use Rattle.model.specs.Rules.{Belongs}
-use Rattle.model.specs.Cards.{Blanks}
 use Rattle.model.specs.Files.{Placed, Lined, Passes}
-use Rattle.model.specs.Refusals.{Short, Refuses, others, byte_at, Keeps11}
+use Rattle.model.specs.Refusals.{Short, Refuses, byte_at, Keeps11}
 use Rattle.model.specs.LineTurns.{spot_of, Noted}
 use Rattle.model.specs.Calls.{Accepted, Declined}
 use Rattle.model.specs.Runs.{number, unread}
 use Rattle.model.proofs.Answering.{Read}
 use Rattle.naming.specs.declared.NameFault.{NameFault}
 use Rattle.naming.specs.declared.NameFault.TheVariants as name
-use Rattle.filling.specs.Filling.{cards_of, card_at, Filled}
+use Rattle.filling.specs.Filling.{cards_of, Filled}
 use Rattle.model.specs.Datasets.{Dataset, entries}
 use Rattle.model.specs.Edits.{body}
 use Rattle.model.specs.Positions.{FindsNone, Told}

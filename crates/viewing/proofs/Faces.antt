@@ -1,18 +1,17 @@
 -- What a card shows of its entry. Assumes nothing.
-use Rattle.std.proofs.Common.{◌≡◌, ℕ, zero, suc, ◌+◌, ◌<◌, ◌≤◌, min, Bool, true, false, ◌⊎◌, List, [], ◌∷◌, ◌++◌, length, get_or, Some, None, Decides, Option, sym, refl, ap, ◌∙◌, subst, inl, inr, arith}
+use Rattle.std.proofs.Common.{◌≡◌, ℕ, zero, suc, ◌+◌, ◌<◌, ◌≤◌, min, Bool, true, false, ◌⊎◌, List, [], ◌∷◌, ◌++◌, length, get_or, Some, None, Decides, Option, sym, refl, ap, ◌∙◌, inl, inr, arith}
 use Rattle.std.specs.List.{AllByRecursion, slice_get}
 use Rattle.std.proofs.ByRecursion.{All-get_or}
 use Rattle.std.proofs.lemmas.Option.{slice_get-get_or, slice_get_past}
 use Rattle.std.proofs.lemmas.Bool.Decides.{not_from_Decides}
-use Rattle.model.specs.declared.Card.{Card}
 use Rattle.model.specs.declared.State.{State}
-use Rattle.model.specs.declared.State.TheVariants.{Filed, Voided, Emptied, Blank}
-use Rattle.model.specs.Lines.{Line, Value, line_of, nothing}
-use Rattle.model.specs.Datasets.{CONT, Payload, none, text, void, pointer, first_value, further, continuations, entry, Entry, Dataset, IsDataset, entries, all_lines, entry_lines}
+use Rattle.model.specs.declared.State.TheVariants.{Voided, Emptied}
+use Rattle.model.specs.Lines.{Line, line_of, nothing}
+use Rattle.model.specs.Datasets.{CONT, Payload, none, text, void, pointer, first_value, further, continuations, entry, Entry, Dataset, IsDataset, entries, all_lines}
 use Rattle.model.specs.Files.{Placed, Lined, at}
-use Rattle.model.specs.Cards.{StandsAt, Files, Holds, after}
+use Rattle.model.specs.Cards.{StandsAt, after}
 use Rattle.model.specs.Refusals.{lines_of}
-use Rattle.model.specs.Edits.{no_entry, no_card}
+use Rattle.model.specs.Edits.{no_entry}
 use Rattle.model.specs.Removal.{card_count}
 use Rattle.model.specs.Runs.{Reply, refused, seen, line, shown, shown_payload, look_reply, more_reply}
 use Rattle.model.proofs.Entries.{Settled, all_settled}
@@ -20,11 +19,9 @@ use Rattle.lines.specs.declared.line.Payload as shown-line
 use Rattle.lines.specs.declared.line.Payload.TheVariants as payload
 use Rattle.lines.specs.declared.line.Line as lines
 use Rattle.lines.specs.Shown.{value_of, Shows}
-use Rattle.looking.specs.Looking.{LineAt, ContinuedAt, Shown}
+use Rattle.looking.specs.Looking.{ContinuedAt}
 use Rattle.looking.proofs.Placing.{Stood, stood}
-use Rattle.looking.proofs.Drawers.{shown_at}
-use Rattle.viewing.specs.declared.face.Face.{Face}
-use Rattle.viewing.specs.Answers.{bytes_in, payload_of, face_entry, look_answer, more_answer}
+use Rattle.viewing.specs.Answers.{bytes_in, payload_of}
 
 clash : {A : Type 0} → ◌≡◌ {A = ℕ} 0 1 → A
 clash e = absurd (omega arith)

@@ -1,8 +1,8 @@
 -- The written form, card by card. Assumes nothing.
-use Rattle.std.proofs.Common.{◌≡◌, ℕ, zero, suc, ◌+◌, ◌-◌, ◌<◌, ◌≤◌, List, [], ◌∷◌, ◌++◌, length, get_or, take, sym, refl, ap, ◌∙◌, subst, append_assoc, append-nil, arith, length-append, rules}
+use Rattle.std.proofs.Common.{◌≡◌, ℕ, ◌+◌, ◌<◌, ◌≤◌, List, [], ◌∷◌, ◌++◌, length, get_or, take, sym, refl, ap, ◌∙◌, append_assoc, append-nil, arith, length-append, rules}
 use Rattle.std.proofs.lemmas.List.{take_more, take_all}
 use Rattle.model.specs.Lines.{Line, spell}
-use Rattle.model.specs.Datasets.{MARK, Entry, Dataset, entries, all_lines, entry_lines, with_line_feeds, lines, written}
+use Rattle.model.specs.Datasets.{MARK, Dataset, entries, all_lines, entry_lines, with_line_feeds, lines, written}
 use Rattle.model.specs.Edits.{no_entry}
 use Rattle.model.specs.Removal.{card_count}
 use Rattle.model.proofs.Ordering.{all_lines_append}

@@ -1,13 +1,11 @@
 -- The written form of a card by its state. Assumes nothing.
-use Rattle.std.proofs.Common.{◌≡◌, ℕ, ◌+◌, ◌-◌, ◌≤◌, Bool, true, false, cond, eqb, List, [], ◌∷◌, ◌++◌, length, get_or, take, Some, None, Option, sym, refl, ap, ◌∙◌, subst, append_assoc, append-nil, arith, length-append}
+use Rattle.std.proofs.Common.{◌≡◌, ℕ, ◌+◌, ◌-◌, Bool, true, false, cond, eqb, List, [], ◌∷◌, ◌++◌, length, get_or, take, None, sym, refl, ap, ◌∙◌, subst, append_assoc, append-nil, arith, length-append}
 use Rattle.std.proofs.lemmas.List.{take_at}
-use Rattle.std.proofs.lemmas.Bool.{cond-true, cond-false}
-use Rattle.std.proofs.lemmas.Bool.Decides.{nat_tests}
 use Rattle.model.specs.declared.Card.{Card}
 use Rattle.model.specs.declared.State.{State}
 use Rattle.model.specs.declared.State.TheVariants.{Filed, Voided, Emptied, Blank}
-use Rattle.model.specs.Lines.{Line, Value, VOID, line_of, spell, spell_value, escaped}
-use Rattle.model.specs.Datasets.{CONT, Payload, none, text, void, pointer, text_value, further, continuations, entry, Entry, with_line_feeds}
+use Rattle.model.specs.Lines.{Line, VOID, line_of, spell, spell_value, escaped}
+use Rattle.model.specs.Datasets.{CONT, text_value, continuations, entry, Entry, with_line_feeds}
 use Rattle.model.specs.Cards.{after, Allowed}
 use Rattle.looking.specs.Looking.{Shown}
 use Rattle.writing.specs.Written.{card_bytes, head_of}

@@ -2,7 +2,7 @@
 use Rattle.std.proofs.Common.{◌≡◌, ℕ, ◌+◌, ◌<◌, ◌≤◌, List, [], ◌∷◌, ◌++◌, length, drop, sym, refl, ap, ◌∙◌, subst, arith, length-take}
 use mathlib.Core.List.{head-eq_of_cons-eq, tail-eq_of_cons-eq}
 use Rattle.model.specs.Lines.{Line, spell}
-use Rattle.model.specs.Datasets.{CONT, further, continuations, Entry}
+use Rattle.model.specs.Datasets.{CONT, continuations, Entry}
 use Rattle.model.specs.Files.{Placed}
 use Rattle.model.specs.Refusals.{lines_of}
 use Rattle.model.proofs.Parts.{not_nil}
@@ -16,7 +16,7 @@ use Rattle.model.specs.LineTurns.{line_end, next_line, is_pair}
 use Rattle.std.proofs.lemmas.Bool.{cond_both}
 use Rattle.std.specs.List.{prefix_len}
 use Rattle.std.proofs.lemmas.List.Sums.{prefix_len-le-length}
-use Rattle.writing.specs.Own.{Trails, NextOf, own_line, Before, OwnOf}
+use Rattle.writing.specs.Own.{Trails, NextOf, Before, OwnOf}
 
 -- before the own line of an entry
 pub before_start : (file : List ℕ) (from : ℕ) (ps : List Placed) (b : ℕ) (e : Entry) (w : Whole ps b e) → Left file from (w.cut.line ∷ w.cut.more) → Before file from e

@@ -1,5 +1,5 @@
 -- What is written of an entry, and how it gets into a buffer. Assumes nothing.
-use Rattle.std.specs.Prelude.{◌≡◌, ℕ, ◌+◌, ◌≤◌, List, [], ◌∷◌, ◌++◌, length, drop}
+use Rattle.std.specs.Prelude.{◌≡◌, ℕ, ◌+◌, ◌≤◌, List, ◌∷◌, ◌++◌, length, drop}
 use Rattle.model.specs.Lines.{Line, numeral, spell_identifier}
 use Rattle.model.specs.Datasets.{Entry, entry_lines, with_line_feeds}
 

@@ -1,10 +1,8 @@
-use Rattle.std.proofs.Common.{◌≡◌, ℕ, ◌+◌, ◌<◌, ◌≤◌, List, length, sym, refl, ap, ◌∙◌, subst, arith}
-use Rattle.model.specs.LineTurns.{line_end, next_line}
+use Rattle.std.proofs.Common.{◌≡◌, ℕ, ◌≤◌, List, length, refl, ap, ◌∙◌, subst, arith}
 use Rattle.model.proofs.LineTurns.{next_line_past}
 use Rattle.model.specs.declared.Card.{Card}
 use Rattle.model.specs.Files.{Placed}
-use Rattle.lines.specs.declared.steps.Found.{Found}
-use Rattle.lines.specs.Steps.{Comes, NoLineAt}
+use Rattle.lines.specs.Steps.{NoLineAt}
 use Rattle.filling.specs.Filling.{BlankFrom, Filled}
 use Rattle.looking.proofs.Left.{left_stuck, other_comes}
 use Rattle.filling.proofs.Filed.{Filling, all_blank, filling_start, filling_more, filling_done, filling_full}

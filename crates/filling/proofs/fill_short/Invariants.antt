@@ -1,4 +1,4 @@
-use Rattle.std.proofs.Common.{◌≡◌, ◌-◌, ◌≤◌, List, length}
+use Rattle.std.proofs.Common.{◌≡◌, ◌-◌, List, length}
 use Rattle.model.specs.Files.{Placed, Passes}
 use Rattle.filling.proofs.Filed.{Filling}
 use Rattle.filling.proofs.fill_short.Given as goal

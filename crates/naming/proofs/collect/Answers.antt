@@ -1,4 +1,4 @@
-use Rattle.std.proofs.Common.{◌≡◌, ◌<◌, length, take, sym, ◌∙◌, subst, arith}
+use Rattle.std.proofs.Common.{◌≡◌, ◌<◌, length, take, ◌∙◌, subst, arith}
 use Rattle.naming.proofs.Indexing.{Gathered, gathered_none, gathered_more, noted_length}
 use Rattle.naming.proofs.collect.Goals as goal
 

@@ -1,4 +1,3 @@
-use Rattle.std.proofs.Common.{refl}
 use Rattle.model.specs.declared.Call.TheVariants.{Write}
 use Rattle.calls.proofs.Granting.{view_refused}
 use Rattle.calls.proofs.viewed.write_call.Goals as goal

@@ -1,4 +1,4 @@
-use Rattle.std.proofs.Common.{◌≡◌, ℕ, ◌-◌, List, [], ◌∷◌, ◌++◌, length, get_or, take, drop, sym, refl, ap, ◌∙◌, subst, inl, arith}
+use Rattle.std.proofs.Common.{◌≡◌, ℕ, ◌-◌, List, [], ◌∷◌, ◌++◌, length, get_or, take, drop, inl, arith}
 use Rattle.std.proofs.lemmas.List.{take_all}
 use Rattle.model.specs.Datasets.{MARK}
 use Rattle.characters.proofs.mark.without_mark.Goals as goal

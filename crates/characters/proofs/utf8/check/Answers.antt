@@ -1,10 +1,10 @@
-use Rattle.std.proofs.Common.{◌≡◌, ℕ, ◌+◌, ◌<◌, ◌≤◌, true, false, cond, List, length, get_or, Some, None, Option, sym, refl, ap, ◌∙◌, subst, arith}
+use Rattle.std.proofs.Common.{◌≡◌, ℕ, ◌+◌, ◌<◌, ◌≤◌, false, cond, List, length, get_or, Some, None, Option, sym, refl, ap, ◌∙◌, subst, arith}
 use Rattle.std.proofs.lemmas.Bool.Decides.{nat_tests}
 use Rattle.model.specs.declared.Place.{Place}
 use Rattle.model.specs.Bytes.{Checked, width_at, banned_at}
 use Rattle.model.specs.LineTurns.{note, spot}
 use Rattle.model.specs.Refusals.{is_end_at}
-use Rattle.model.proofs.Bytes.{checked_start, width_fits, checked_step, checked_invalid, checked_banned, checked_clean}
+use Rattle.model.proofs.Bytes.{width_fits, checked_step, checked_invalid, checked_banned, checked_clean}
 use Rattle.characters.proofs.utf8.check.Goals as goal
 use Rattle.characters.proofs.utf8.check.Goals.{then-ends_line, else-ends_line}
 

@@ -1,4 +1,4 @@
-use Rattle.std.proofs.Common.{◌-◌, ◌≤◌, length}
+use Rattle.std.proofs.Common.{◌-◌, length}
 use Rattle.model.specs.Bytes.{Checked}
 use Rattle.characters.proofs.utf8.check.Given as goal
 

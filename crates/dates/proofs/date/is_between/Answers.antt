@@ -1,4 +1,4 @@
-use Rattle.std.proofs.Common.{◌≡◌, ℕ, Bool, List, Some, Option, sym, ap, ◌∙◌}
+use Rattle.std.proofs.Common.{◌≡◌, ℕ, List, Some, Option, sym, ap, ◌∙◌}
 use Rattle.model.specs.Grammar.{passes, after_date, is_after, is_between}
 use Rattle.pieces.specs.Words.{words_of, behind_word}
 use Rattle.dates.proofs.Stripping.{between_is}

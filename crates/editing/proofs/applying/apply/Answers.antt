@@ -1,4 +1,4 @@
-use Rattle.std.proofs.Common.{◌≡◌, ℕ, ◌≤◌, length, refl, subst, inl, inr, arith}
+use Rattle.std.proofs.Common.{ℕ, ◌≤◌, length, refl, subst, inl, inr, arith}
 use Rattle.model.specs.Removal.{card_count}
 use Rattle.model.proofs.Editing.{held_room}
 use Rattle.editing.specs.Showing.{Inside}

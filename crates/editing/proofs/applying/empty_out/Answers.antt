@@ -1,4 +1,4 @@
-use Rattle.std.proofs.Common.{◌≡◌, ◌+◌, ◌-◌, ◌<◌, ◌++◌, length, get_or, replicate, ap, ◌∙◌, arith}
+use Rattle.std.proofs.Common.{◌+◌, ◌-◌, ◌<◌, ◌++◌, length, get_or, replicate, ap, ◌∙◌, arith}
 use Rattle.model.specs.Datasets.{entries}
 use Rattle.model.specs.Cards.{blank}
 use Rattle.model.specs.Edits.{no_entry, without}

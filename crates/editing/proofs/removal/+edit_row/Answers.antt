@@ -1,4 +1,4 @@
-use Rattle.std.proofs.Common.{◌≡◌, ◌+◌, ◌<◌, length, get_or, drop, sym, ap, ◌∙◌, ap₂, arith}
+use Rattle.std.proofs.Common.{◌+◌, ◌<◌, length, get_or, drop, sym, ap, ◌∙◌, ap₂, arith}
 use Rattle.model.specs.Positions.{within}
 use Rattle.model.specs.Edits.{no_entry, edit_row, row_types}
 use Rattle.model.proofs.Flat.{edit_end, edit_stop, edit_this, edit_behind}

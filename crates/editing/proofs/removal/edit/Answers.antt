@@ -1,4 +1,4 @@
-use Rattle.std.proofs.Common.{◌≡◌, ap, ◌∙◌}
+use Rattle.std.proofs.Common.{ap, ◌∙◌}
 use Rattle.model.specs.declared.Context.TheVariants.{Top}
 use Rattle.model.specs.Datasets.{entries}
 use Rattle.model.specs.Edits.{body}

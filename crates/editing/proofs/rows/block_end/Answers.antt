@@ -1,4 +1,4 @@
-use Rattle.std.proofs.Common.{◌≡◌, ◌<◌, length, arith}
+use Rattle.std.proofs.Common.{◌<◌, length, arith}
 use Rattle.model.proofs.Flat.{block_ends, block_stops, block_more}
 use Rattle.editing.proofs.rows.block_end.Goals as goal
 

@@ -1,4 +1,4 @@
-use Rattle.std.proofs.Common.{◌≡◌, ◌<◌, length, Some, sym, ap, ◌∙◌, arith}
+use Rattle.std.proofs.Common.{◌<◌, length, Some, sym, ap, ◌∙◌, arith}
 use Rattle.model.specs.Removal.{how_many}
 use Rattle.model.proofs.Flat.{types_end, types_stop, types_pass}
 use Rattle.editing.proofs.Descent.{counted_one, counted_other}

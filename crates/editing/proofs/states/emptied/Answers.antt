@@ -1,4 +1,4 @@
-use Rattle.std.proofs.Common.{◌≡◌, Some, None, ap, ◌∙◌}
+use Rattle.std.proofs.Common.{Some, None, ap, ◌∙◌}
 use Rattle.model.specs.Edits.{emptied_state}
 use Rattle.editing.specs.Showing.{emptied_value}
 use Rattle.editing.proofs.Holding.{tells, as_filed, emptied_first}

@@ -1,8 +1,7 @@
-use Rattle.std.proofs.Common.{◌≡◌, ◌<◌, true, false, length, sym, refl, ap, ◌∙◌, subst, inl, inr, arith}
+use Rattle.std.proofs.Common.{◌≡◌, ◌<◌, length, sym, refl, ◌∙◌, subst, inl, inr, arith}
 use Rattle.std.proofs.lemmas.Bool.{cases_lt, eqb-true, eqb-false}
 use Rattle.std.proofs.lemmas.Bool.Decides.{not_from_Decides}
 use Rattle.model.specs.declared.Card.{Card}
-use Rattle.model.specs.Lines.{Line}
 use Rattle.holding.specs.Standing.{card, LineOn, FitsAt}
 use Rattle.holding.proofs.Fitted.{never, card_is, line_on}
 use Rattle.holding.proofs.fitting.fits.Goals as goal

@@ -1,6 +1,5 @@
-use Rattle.std.proofs.Common.{true, false, sym, ◌∙◌, true≢false}
-use Rattle.std.proofs.lemmas.Bool.Decides.{not_from_Decides}
-use Rattle.holding.proofs.Fitted.{allowed_by, never}
+use Rattle.std.proofs.Common.{sym, ◌∙◌, true≢false}
+use Rattle.holding.proofs.Fitted.{allowed_by}
 use Rattle.holding.proofs.fitting.fits_at.Goals as goal
 
 pub returns-then-is_allowed : goal.returns-then-is_allowed

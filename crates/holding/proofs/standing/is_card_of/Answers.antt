@@ -1,6 +1,5 @@
-use Rattle.std.proofs.Common.{◌≡◌, Bool, true, false, not, Decides, sym, refl, ap, ◌∙◌, true≢false, arith}
+use Rattle.std.proofs.Common.{sym, ap, ◌∙◌, arith}
 use Rattle.model.specs.declared.Card.{Card}
-use Rattle.holding.specs.Matching.{Matches}
 use Rattle.holding.proofs.Fitted.{never, turned, card_is}
 use Rattle.holding.proofs.standing.is_card_of.Goals as goal
 

@@ -1,9 +1,8 @@
-use Rattle.std.proofs.Common.{◌≡◌, ◌<◌, ◌≤◌, true, false, length, sym, ap, ◌∙◌, subst, arith}
-use Rattle.model.specs.LineTurns.{line_end, next_line}
+use Rattle.std.proofs.Common.{length, ap, ◌∙◌, subst, arith}
 use Rattle.model.proofs.LineTurns.{next_line_past}
 use Rattle.lines.specs.Steps.{NoLineAt}
 use Rattle.looking.proofs.Left.{other_comes, left_stuck}
-use Rattle.holding.proofs.Merging.{Merging, merging_start, merging_match, merging_pass, merging_end}
+use Rattle.holding.proofs.Merging.{merging_start, merging_match, merging_pass, merging_end}
 use Rattle.std.proofs.lemmas.Bool.{eqb-true, eq-eqb}
 use Rattle.std.proofs.lemmas.Bool.Decides.{not_from_Decides}
 use Rattle.holding.proofs.standing.on_lines.Goals as goal

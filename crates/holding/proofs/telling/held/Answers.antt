@@ -1,4 +1,3 @@
-use Rattle.std.proofs.Common.{arith}
 use Rattle.holding.proofs.Fronting.{tell_held, tell_none}
 use Rattle.holding.proofs.telling.held.Goals as goal
 

@@ -1,4 +1,4 @@
-use Rattle.std.proofs.Common.{◌≡◌, ◌<◌, length, get_or, sym, ◌∙◌, arith}
+use Rattle.std.proofs.Common.{◌<◌, length, get_or, sym, ◌∙◌, arith}
 use Rattle.model.specs.Refusals.{single}
 use Rattle.model.specs.Positions.{KeepsAt}
 use Rattle.model.proofs.Finding.{first_start, first_kept, first_broken, row_keeps, row_breaks}

@@ -1,6 +1,6 @@
-use Rattle.std.proofs.Common.{◌≡◌, ℕ, ◌+◌, ◌<◌, List, length, get_or, drop, codes, sym, ap, ◌∙◌}
+use Rattle.std.proofs.Common.{◌+◌, drop, codes, sym, ap, ◌∙◌}
 use Rattle.std.proofs.lemmas.List.{at_drop_more}
-use Rattle.model.specs.Grammar.{after_unit, after_units}
+use Rattle.model.specs.Grammar.{after_units}
 use Rattle.pieces.specs.Words.{words_of}
 use Rattle.kinds.proofs.age.is_duration.Goals as goal
 

@@ -1,8 +1,8 @@
-use Rattle.std.proofs.Common.{◌≡◌, ℕ, Bool, List, [], ◌∷◌, Decides, sym, ap, ◌∙◌, subst}
+use Rattle.std.proofs.Common.{◌≡◌, Bool, [], Decides, sym, ap, ◌∙◌, subst}
 use Rattle.std.proofs.lemmas.Bool.Decides.{Decides-at}
 use Rattle.model.specs.declared.Kind.{Kind}
 use Rattle.model.specs.Books.{Meaning}
-use Rattle.model.specs.Datasets.{Payload, none, text, void, pointer}
+use Rattle.model.specs.Datasets.{Payload, text}
 use Rattle.model.specs.Kinds.{Takes}
 use Rattle.model.specs.Grammar.{takes}
 use Rattle.model.proofs.Taking.{takes_decides}

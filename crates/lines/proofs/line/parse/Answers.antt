@@ -1,4 +1,4 @@
-use Rattle.std.proofs.Common.{◌≡◌, ℕ, List, sym, refl, ap, ◌∙◌, subst}
+use Rattle.std.proofs.Common.{sym, refl}
 use Rattle.std.specs.Option.{option_map}
 use Rattle.lines.specs.Parsed.{Part}
 use Rattle.model.specs.Lines.{line_of}

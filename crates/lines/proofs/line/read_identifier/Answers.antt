@@ -1,9 +1,9 @@
-use Rattle.std.proofs.Common.{◌≡◌, ℕ, true, false, List, ◌∷◌, get_or, Some, None, Option, sym, refl, ap, ◌∙◌, subst, arith, lit<}
+use Rattle.std.proofs.Common.{◌≡◌, Some, sym, ap, ◌∙◌, subst, arith, lit<}
 use Rattle.std.proofs.lemmas.Bool.{both_ways}
 use Rattle.model.specs.Lines.{VOID}
 use Rattle.model.specs.Scan.{marked, read_identifier}
 use Rattle.lines.specs.Shown.{ReadsIdentifier}
-use Rattle.lines.proofs.Readers.{first_is, identifier_none, identifier_void, identifier_joined, identifier_found, identifier_absent}
+use Rattle.lines.proofs.Readers.{first_is, identifier_none, identifier_void, identifier_joined, identifier_found}
 use Rattle.lines.proofs.line.read_identifier.Goals as goal
 
 pub returns-in_err-identifier-in-64 : goal.returns-in_err-identifier-in-64

@@ -1,7 +1,7 @@
-use Rattle.std.proofs.Common.{◌≡◌, ℕ, true, false, List, ◌∷◌, length, Some, None, sym, refl, ap, ◌∙◌, subst, arith}
+use Rattle.std.proofs.Common.{◌≡◌, Some, sym, ◌∙◌, subst, arith}
 use Rattle.std.proofs.lemmas.Bool.{both_ways}
 use Rattle.std.proofs.lemmas.Bool.Decides.{nat_tests}
-use Rattle.model.specs.Lines.{Value, pointer, VOID}
+use Rattle.model.specs.Lines.{pointer, VOID}
 use Rattle.model.specs.Scan.{marked, read_marked}
 use Rattle.lines.specs.Shown.{ReadsValue}
 use Rattle.lines.proofs.Readers.{pointer_none, pointer_followed, pointer_void, pointer_found}

@@ -1,8 +1,8 @@
-use Rattle.std.proofs.Common.{◌≡◌, ℕ, ◌-◌, Bool, true, false, eqb, List, [], ◌∷◌, length, get_or, take, drop, Some, Decides, Option, sym, refl, ap, ◌∙◌, subst, lit<}
+use Rattle.std.proofs.Common.{◌≡◌, ℕ, ◌-◌, Bool, false, eqb, List, [], ◌∷◌, length, get_or, take, drop, Some, Decides, Option, sym, refl, ap, ◌∙◌, subst, lit<}
 use Rattle.std.proofs.lemmas.List.{take_rest}
 use Rattle.std.proofs.lemmas.Bool.{both_ways}
 use Rattle.model.specs.Lines.{text, Value}
-use Rattle.model.specs.Scan.{read_payload, read_marked}
+use Rattle.model.specs.Scan.{read_payload}
 use Rattle.lines.specs.Shown.{ReadsValue}
 use Rattle.lines.proofs.Readers.{first_is, text_marked, text_plain}
 use Rattle.lines.proofs.line.read_text.Goals as goal

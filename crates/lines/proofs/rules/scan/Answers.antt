@@ -1,12 +1,11 @@
-use Rattle.std.proofs.Common.{◌≡◌, ℕ, ◌+◌, ◌<◌, ◌≤◌, List, length, sym, refl, ap, ◌∙◌, subst, arith}
-use Rattle.std.specs.Option.{option_map}
+use Rattle.std.proofs.Common.{◌≡◌, ℕ, ◌+◌, ◌≤◌, List, length, sym, refl, ap, ◌∙◌, subst, arith}
 use Rattle.model.specs.Refusals.{Refuses, fault}
-use Rattle.model.specs.LineTurns.{line_end, next_line}
+use Rattle.model.specs.LineTurns.{line_end}
 use Rattle.model.proofs.LineTurns.{next_line_past}
 use Rattle.lines.specs.declared.steps.Found.{Found}
 use Rattle.lines.specs.Faults.{line_fault}
 use Rattle.lines.specs.Steps.{Comes, NoLineAt}
-use Rattle.lines.proofs.Scanned.{Going, start, step, few, cards_few, no_line, bare, broken, kept}
+use Rattle.lines.proofs.Scanned.{start, step, few, cards_few, no_line, bare, broken, kept}
 use Rattle.lines.proofs.rules.scan.Goals as goal
 
 pub loop-found-init : goal.loop-found-init

@@ -1,7 +1,6 @@
-use Rattle.std.proofs.Common.{◌≡◌, ℕ, ◌+◌, ◌-◌, ◌<◌, ◌≤◌, ◌⊎◌, List, ◌∷◌, length, Some, None, sym, refl, ap, ◌∙◌, subst, inl, inr, arith}
+use Rattle.std.proofs.Common.{◌≡◌, ◌+◌, ◌-◌, ◌∷◌, length, Some, sym, ap, ◌∙◌, subst, inl, inr, arith}
 use Rattle.std.specs.List.{slice_get}
 use Rattle.std.proofs.lemmas.Bool.Decides.{not_from_Decides}
-use Rattle.model.specs.LineTurns.{line_end, next_line}
 use Rattle.model.proofs.LineTurns.{next_line_past}
 use Rattle.looking.proofs.Left.{left_here, left_at, left_ended}
 use Rattle.looking.proofs.Trailing.{Trailing, whole_of, trailing_start, trailing_end, trailing_stuck, trailing_comes, text_is}

@@ -1,4 +1,4 @@
-use Rattle.std.proofs.Common.{◌≡◌, ℕ, List, ◌∷◌, sym, ap, ◌∙◌, subst, arith}
+use Rattle.std.proofs.Common.{◌∷◌, sym, ap, ◌∙◌, subst, arith}
 use Rattle.model.specs.Lines as model
 use Rattle.kinds.specs.Contents.{StandsFor}
 use Rattle.looking.proofs.Left.{Left, left_at, left_here, left_ended, left_stuck, left_goes, left_shows}

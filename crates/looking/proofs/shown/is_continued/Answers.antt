@@ -1,8 +1,8 @@
 use Rattle.std.proofs.Common.{◌≡◌, ℕ, ◌+◌, ◌<◌, Bool, List, [], ◌∷◌, length, Decides, sym, refl, ap, ◌∙◌, subst, arith}
 use Rattle.model.specs.Lines.{Line}
 use Rattle.model.specs.Datasets.{CONT}
-use Rattle.model.specs.Files.{Placed, Lined, at}
-use Rattle.model.specs.Refusals.{lines_of, byte_at}
+use Rattle.model.specs.Files.{Placed, at}
+use Rattle.model.specs.Refusals.{lines_of}
 use Rattle.looking.specs.Looking.{BeginsOn}
 use Rattle.looking.proofs.Left.{Left, Cut, cut, left_at, left_here, left_ended, left_stuck, left_goes}
 use Rattle.looking.proofs.Placing.{cut_last, cut_next}

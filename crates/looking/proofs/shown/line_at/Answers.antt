@@ -1,8 +1,6 @@
-use Rattle.std.proofs.Common.{◌≡◌, ℕ, ◌<◌, List, ◌∷◌, length, sym, subst, arith}
-use Rattle.model.specs.Files.{Placed, Lined}
-use Rattle.model.specs.Refusals.{byte_at}
+use Rattle.std.proofs.Common.{◌∷◌, sym, subst, arith}
 use Rattle.lines.specs.Shown.{Shows}
-use Rattle.looking.proofs.Left.{Left, Cut, cut, left_at, left_here, left_ended, left_shows, left_stuck}
+use Rattle.looking.proofs.Left.{cut, left_at, left_here, left_ended, left_shows, left_stuck}
 use Rattle.looking.proofs.shown.line_at.Goals as goal
 
 pub returns-then-byte-file : goal.returns-then-byte-file

@@ -1,5 +1,4 @@
-use Rattle.std.proofs.Common.{◌≡◌, List, [], ◌∷◌, sym, ap, ◌∙◌, subst, true≢false}
-use Rattle.model.specs.Files.{Placed}
+use Rattle.std.proofs.Common.{sym, ◌∙◌, subst, true≢false}
 use Rattle.looking.specs.Looking.{BeginsOn}
 use Rattle.looking.proofs.Left.{left_end, left_stuck, left_comes}
 use Rattle.looking.proofs.shown.next_continues.Goals as goal

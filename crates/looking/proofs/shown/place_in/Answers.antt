@@ -1,10 +1,8 @@
-use Rattle.std.proofs.Common.{◌≡◌, ℕ, ◌+◌, ◌<◌, ◌≤◌, List, length, sym, ap, ◌∙◌, subst, arith}
-use Rattle.model.specs.LineTurns.{line_end, next_line}
+use Rattle.std.proofs.Common.{length, ap, ◌∙◌, subst, arith}
 use Rattle.model.proofs.LineTurns.{next_line_past}
-use Rattle.lines.specs.declared.steps.Found.{Found}
-use Rattle.lines.specs.Steps.{Comes, NoLineAt}
+use Rattle.lines.specs.Steps.{NoLineAt}
 use Rattle.looking.proofs.Left.{other_comes}
-use Rattle.looking.proofs.Placing.{Seeking, seeking_start, seeking_more, seeking_found, seeking_end, seeking_stuck}
+use Rattle.looking.proofs.Placing.{seeking_start, seeking_more, seeking_found, seeking_end, seeking_stuck}
 use Rattle.looking.proofs.shown.place_in.Goals as goal
 
 pub loop-found-init : goal.loop-found-init

@@ -1,7 +1,6 @@
-use Rattle.std.proofs.Common.{◌≡◌, ℕ, List, [], ◌∷◌, Some, None, Option, sym, refl, ap, ◌∙◌}
+use Rattle.std.proofs.Common.{[], ◌∷◌, sym, refl, ap, ◌∙◌}
 use Rattle.std.specs.Option.{option_map}
-use Rattle.model.specs.Kinds.{cut}
-use Rattle.model.specs.Grammar.{ends_well, piece, behind}
+use Rattle.model.specs.Grammar.{ends_well, piece}
 use Rattle.model.proofs.Grammars.{behind_length}
 use Rattle.pieces.proofs.Cutting.{cut_more, cut_last, over_first}
 use Rattle.pieces.proofs.list.last_piece.Goals as goal

@@ -1,12 +1,12 @@
-use Rattle.std.proofs.Common.{◌≡◌, ℕ, ◌≤◌, min, true, false, List, length, take, is_err, Ok, Err, Result, sym, refl, ap, ◌∙◌, subst, arith, rules}
+use Rattle.std.proofs.Common.{◌≡◌, ℕ, true, false, List, length, is_err, Ok, Err, Result, sym, refl, rules}
 use Rattle.std.proofs.lemmas.Bool.{both_ways}
 use Rattle.model.specs.declared.Card.{Card}
 use Rattle.model.specs.Books.{Meaning}
 use Rattle.filling.specs.Filling.{BlankFrom}
 use Rattle.filling.proofs.Filed.{all_blank}
 use Rattle.reading.specs.declared.fault.ReadFault.{ReadFault}
-use Rattle.reading.specs.Read.{Fits, Judges, Reads}
-use Rattle.reading.proofs.Reading.{take_min, ordered_kept, no_card, judged, filled_judged, refused_judged, fits_few, granted, denied}
+use Rattle.reading.specs.Read.{Fits, Reads}
+use Rattle.reading.proofs.Reading.{granted, denied}
 use Rattle.reading.proofs.filing.read.Goals as goal
 
 refusing : (m : Meaning) (file : List ℕ) (cards mid out : List Card) (r : Result ℕ ReadFault) → is_err r ≡ true → Fits m file (length cards) r mid → BlankFrom 0 mid out → Reads m file cards r out

@@ -1,4 +1,4 @@
-use Rattle.std.proofs.Common.{◌≡◌, ◌+◌, ◌<◌, get_or, take, refl, arith}
+use Rattle.std.proofs.Common.{◌+◌, ◌<◌, get_or, take, refl, arith}
 use Rattle.model.specs.Datasets.{entries, all_lines, with_line_feeds, lines}
 use Rattle.model.specs.Edits.{no_entry}
 use Rattle.model.specs.Removal.{card_count}

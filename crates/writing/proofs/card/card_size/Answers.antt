@@ -1,6 +1,5 @@
-use Rattle.std.proofs.Common.{◌≡◌, ◌+◌, length, ap, ◌∙◌, inl, inr, arith}
-use Rattle.model.specs.Datasets.{Entry, further, continuations}
-use Rattle.looking.specs.Looking.{Shown}
+use Rattle.std.proofs.Common.{◌+◌, length, ap, inl, inr, arith}
+use Rattle.model.specs.Datasets.{further, continuations}
 use Rattle.writing.specs.Own.{own_line}
 use Rattle.writing.proofs.Carded.{filed_entry, filed_bytes, voided_long, emptied_long, never_blank, feeds_long}
 use Rattle.writing.proofs.card.card_size.Goals as goal

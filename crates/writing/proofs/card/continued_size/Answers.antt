@@ -1,4 +1,4 @@
-use Rattle.std.proofs.Common.{◌≡◌, length, sym, refl, ap, ◌∙◌, subst, arith}
+use Rattle.std.proofs.Common.{length, sym, ap, ◌∙◌, subst, arith}
 use Rattle.model.specs.Datasets.{continuations, with_line_feeds}
 use Rattle.writing.specs.Own.{Trails}
 use Rattle.writing.proofs.Carded.{sized_more}

@@ -1,4 +1,4 @@
-use Rattle.std.proofs.Common.{◌≡◌, [], ◌∷◌, ◌++◌, sym, refl, ap, ◌∙◌, subst, append-nil, arith}
+use Rattle.std.proofs.Common.{[], ◌∷◌, ◌++◌, sym, ap, ◌∙◌, subst, append-nil}
 use Rattle.model.specs.Datasets.{continuations, with_line_feeds}
 use Rattle.writing.specs.Own.{Trails}
 use Rattle.writing.proofs.Adding.{adds_then, adds_same}

@@ -1,4 +1,4 @@
-use Rattle.std.proofs.Common.{◌≡◌, ℕ, ◌+◌, ◌-◌, ◌≤◌, List, ◌++◌, length}
+use Rattle.std.proofs.Common.{◌≡◌, ℕ, ◌-◌, List, ◌++◌, length}
 use Rattle.model.specs.Datasets.{continuations, with_line_feeds}
 use Rattle.writing.specs.Written.{Adds}
 use Rattle.writing.specs.Own.{Trails}

@@ -1,6 +1,6 @@
-use Rattle.std.proofs.Common.{◌≡◌, ◌+◌, [], ◌∷◌, ◌++◌, sym, ap, ◌∙◌, inl, inr}
+use Rattle.std.proofs.Common.{◌+◌, [], ◌∷◌, ◌++◌, sym, ap, ◌∙◌, inl, inr}
 use Rattle.model.specs.Lines.{VOID}
-use Rattle.model.specs.Datasets.{Entry, further, continuations, with_line_feeds}
+use Rattle.model.specs.Datasets.{further, continuations, with_line_feeds}
 use Rattle.writing.specs.Written.{card_bytes}
 use Rattle.writing.specs.Own.{own_line}
 use Rattle.writing.proofs.Adding.{adds_then, adds_same}

@@ -1,7 +1,6 @@
-use Rattle.std.proofs.Common.{◌≡◌, ◌-◌, ◌≤◌, min, cond, length, take, drop, sym, refl, ap, ◌∙◌, arith, length-drop, length-take}
+use Rattle.std.proofs.Common.{◌≡◌, ◌-◌, cond, length, take, drop, ap, ◌∙◌, arith, length-drop, length-take}
 use Rattle.model.specs.LineTurns.{is_marked}
 use Rattle.looking.proofs.Left.{left_here, left_at, left_ended}
-use Rattle.looking.proofs.Placing.{stood}
 use Rattle.looking.proofs.Trailing.{whole_of}
 use Rattle.writing.proofs.Trails.{before_start}
 use Rattle.writing.proofs.continued.cursor_at.Goals as goal

@@ -1,4 +1,4 @@
-use Rattle.std.proofs.Common.{refl, arith}
+use Rattle.std.proofs.Common.{arith}
 use Rattle.std.proofs.lemmas.Bool.Decides.{not_from_Decides}
 use Rattle.writing.proofs.Trails.{trails_next, trails_stop, trails_end, trails_stuck, comes_past}
 use Rattle.writing.proofs.continued.next_continuation.Goals as goal

@@ -1,4 +1,4 @@
-use Rattle.std.proofs.Common.{◌≡◌, ◌-◌, length, sym, ap, ◌∙◌, arith, length-take}
+use Rattle.std.proofs.Common.{◌≡◌, ◌-◌, length, ap, ◌∙◌, arith, length-take}
 use Rattle.model.specs.Lines.{spell_value}
 use Rattle.writing.proofs.Carded.{head_taken}
 use Rattle.writing.proofs.head.head.Goals as goal

@@ -1,4 +1,4 @@
-use Rattle.std.proofs.Common.{◌≡◌, suc, ◌-◌, sym, refl, ap, ◌∙◌, arith}
+use Rattle.std.proofs.Common.{◌≡◌, suc, sym, refl, ap, ◌∙◌, arith}
 use Rattle.std.specs.List.{slice_get}
 use Rattle.books.proofs.Seeking.{needs_of_entries, need_here, need_past, needs_end}
 use Rattle.books.proofs.home.HomeBook.need.Goals as goal

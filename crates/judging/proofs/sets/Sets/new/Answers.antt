@@ -1,4 +1,3 @@
-use Rattle.std.proofs.Common.{ap}
 use Rattle.judging.proofs.Bits.{bit_clear}
 use Rattle.judging.proofs.sets.Sets.new.Goals as goal
 

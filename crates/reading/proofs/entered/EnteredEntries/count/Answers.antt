@@ -1,5 +1,5 @@
-use Rattle.std.proofs.Common.{◌≡◌, ◌<◌, ◌≤◌, min, length, get_or, sym, ap, ◌∙◌, arith}
-use Rattle.reading.proofs.Entering.{counted, card_there, filed, shallow, worded, targets}
+use Rattle.std.proofs.Common.{arith}
+use Rattle.reading.proofs.Entering.{counted}
 use Rattle.reading.proofs.entered.EnteredEntries.count.Goals as goal
 
 pub returns : goal.returns

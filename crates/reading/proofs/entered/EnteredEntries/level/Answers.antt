@@ -1,5 +1,5 @@
-use Rattle.std.proofs.Common.{◌≡◌, ◌<◌, ◌≤◌, min, length, get_or, sym, ap, ◌∙◌, arith}
-use Rattle.reading.proofs.Entering.{counted, card_there, filed, shallow, worded, targets}
+use Rattle.std.proofs.Common.{get_or, arith}
+use Rattle.reading.proofs.Entering.{card_there, filed, shallow}
 use Rattle.reading.proofs.entered.EnteredEntries.level.Goals as goal
 
 pub returns-then-i-self : goal.returns-then-i-self

@@ -1,5 +1,4 @@
-use Rattle.std.proofs.Common.{◌≡◌, ◌<◌, ◌≤◌, min, length, get_or, sym, ap, ◌∙◌, arith}
-use Rattle.reading.proofs.Entering.{counted, card_there, filed, shallow, worded, targets}
+use Rattle.reading.proofs.Entering.{targets}
 use Rattle.reading.proofs.entered.EnteredEntries.target.Goals as goal
 
 pub returns-in-Pointer : goal.returns-in-Pointer

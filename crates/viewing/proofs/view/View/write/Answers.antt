@@ -1,4 +1,4 @@
-use Rattle.std.proofs.Common.{ℕ, [], ◌++◌, length, refl, ap, arith, length-append}
+use Rattle.std.proofs.Common.{ℕ, [], refl, ap, arith}
 use Rattle.model.specs.Datasets.{MARK, lines, with_line_feeds}
 use Rattle.writing.proofs.Adding.{adds_then}
 use Rattle.viewing.proofs.Fronts.{oversized, cramped, fitted}
