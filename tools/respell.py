@@ -82,8 +82,10 @@ def turn(text, table, stay, answers):
         word = m.group()
         if word not in table or word in stay:
             continue
-        if word in TYPES and (text[m.end() :].startswith((" = ", " {")) or text[: m.start()].endswith("ensures ")):
-            continue
+        if word in TYPES:
+            line = text[text.rfind("\n", 0, m.start()) + 1 : m.start()]
+            if "--" in line or "//" in line or line.endswith("ensures ") or text[m.end() :].startswith((" = ", " {")):
+                continue
         if answers is not None:
             before = text[max(0, m.start() - 40) : m.start()]
             if word in answers or before.endswith(".") and MADE.search(before[:-1]):
@@ -102,6 +104,14 @@ def main():
         names |= found
         for n in found:
             where[n].add(path)
+    # what a use line calls a name of this repository in one file
+    for path in list(files(top, ".antt")) + list(files(top, ".rt")):
+        for head, alias in re.findall(rf"(?m)^\s*(?:pub )?(?:ghost )?use ([^;\n]*?) as ({NAME})\s*;?$", read(path)):
+            if head.split(".")[0] == "Rattle" and head.split(".")[1] in own:
+                names.add(alias)
+        for head, items in re.findall(r"(?m)^\s*(?:pub )?(?:ghost )?use ([^\s{;]+)\.\{([^}]*)\}", read(path)):
+            if head.split(".")[0] == "Rattle" and head.split(".")[1] in own:
+                names |= {item.split(" as ")[1].strip() for item in items.split(",") if " as " in item}
     table = {}
     for n in names:
         if n in TYPES or "′" in n or ("-" in n.strip("-") and re.search("[A-Za-z]", n) and not re.match(r"[\d-]", n)):

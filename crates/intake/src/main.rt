@@ -94,7 +94,7 @@ fn answer(rt: &HostRuntime) -> Result<(), Failure> {
     }
 }
 
-// What went wrong is told by then, in one line.
+// What can be told of a failure was told by then, in one line.
 fn main(rt: HostRuntime) -> ExitCode {
     match answer(&rt) {
         Ok(()) => ExitCode::SUCCESS,

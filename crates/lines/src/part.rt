@@ -2,8 +2,8 @@
 ghost use Rattle.std.specs.Prelude.{◌≡◌, ◌≤◌, min, true, length};
 ghost use Rattle.std.specs.Option.{option_map};
 ghost use Rattle.std.specs.List.{prefix_len};
-ghost use Rattle.model.specs.Lines.{tag_char, tag_chars, is_tag as tag-form};
-ghost use Rattle.model.specs.Scan.{number_of, read_byte, is_level as level-digits};
+ghost use Rattle.model.specs.Lines.{tag_char, tag_chars, is_tag as tag_form};
+ghost use Rattle.model.specs.Scan.{number_of, read_byte, is_level as level_digits};
 ghost use Rattle.lines.specs.Parsed.{passes, ReadsLevel, ReadsMarked, ReadsTag};
 
 // What a run of bytes is made of.
@@ -60,7 +60,7 @@ fn capped(digits: &[u8]) -> u8
 
 // Whether digits are a level: no zero stands before others.
 fn is_level(digits: &[u8]) -> bool
-    ensures { result ≡ level-digits digits.now }
+    ensures { result ≡ level_digits digits.now }
 {
     match digits {
         [] => false,
@@ -108,7 +108,7 @@ pub fn read_marked(bytes: &[u8]) -> Option<(&[u8], &[u8])>
 
 // Whether characters of a tag are one: the first is a letter, or _ with one more behind it.
 fn is_tag(run: &[u8]) -> bool
-    ensures { tag_chars run.now ≡ true → result ≡ tag-form run.now }
+    ensures { tag_chars run.now ≡ true → result ≡ tag_form run.now }
 {
     match run {
         [] => false,

@@ -15,7 +15,7 @@ use Rattle.model.specs.Refusals.{Refuses}
 use Rattle.model.specs.declared.Fault.{Fault}
 use Rattle.model.specs.Calls.{Event, buffer_after, PerformsEvent}
 
--- what one call does, as the contract of the call that PerformsEvent any of them says it
+-- what one call does, as the contract of the call that performs any of them says it
 abbrev pub Performing : Type 1
 Performing = Meaning → List ℕ → List Card → Event → List Card → Type 0
 

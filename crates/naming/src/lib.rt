@@ -4,7 +4,7 @@
 ghost use Rattle.std.specs.Prelude.{◌≡◌, ◌<◌, ◌≤◌, length};
 ghost use Rattle.std.specs.Ordering.{is_lt};
 ghost use Rattle.std.specs.List.Sorted.{IsPermutation};
-ghost use Rattle.model.specs.Index.{lesser as lesser-of};
+ghost use Rattle.model.specs.Index.{lesser as lesser_of};
 ghost use Rattle.naming.specs.Naming.{ShowsName, ShowsPointer, Notes, InOrder, LeastName, FindsName, FindsLost, NamesFit, InPayload, PointerAt, Collects, Indexes, IsLost, TargetOf};
 
 use lines::Payload;
@@ -88,7 +88,7 @@ fn order(names: &mut [(&[u8], usize)])
 }
 
 fn lesser(least: Option<usize>, repeated: bool, card: usize) -> Option<usize>
-    ensures { result ≡ lesser-of least repeated card }
+    ensures { result ≡ lesser_of least repeated card }
 {
     match least {
         Some(other) => if repeated && card < other {

@@ -19,7 +19,7 @@ use Rattle.model.specs.Index.{place_of, card_line, card_spot}
 use Rattle.model.specs.Positions.{FindsNone}
 use Rattle.model.proofs.Options.{some_same}
 use Rattle.model.proofs.Noting.{kept_next, kept_all, refusal}
-use Rattle.model.proofs.Answering.{Read, kept_read, others_within, room_kept as kept-few, accepted, declined}
+use Rattle.model.proofs.Answering.{Read, kept_read, others_within, room_kept as kept_few, accepted, declined}
 use Rattle.model.proofs.Reading.{files_from, filed_others, others_count, others_line}
 use Rattle.model.proofs.Judging.{belongs_found, refuses_told}
 use Rattle.model.proofs.Finding.{told_within}
@@ -246,7 +246,7 @@ refused_judged m file rooms n out ps passes f cards is g j = j ps rooms passes (
 
 pub fits_few : (rooms n : ℕ) (out : List Card) (ps : List Placed) → Fill.Filled rooms n out ps → (cards : List Card) → cards ≡ take (min n (length out)) out → length cards ≤ 65535
 fits_few rooms n out ps f cards is =
-    let low = kept-few rooms ps f.kept in
+    let low = kept_few rooms ps f.kept in
     let long : length cards ≡ min (min n (length out)) (length out) = ap length is ∙ length-take (min n (length out)) out in
     let c = f.counted in
     omega arith

@@ -15,7 +15,7 @@ use Rattle.model.specs.Edits.{no_entry}
 use Rattle.model.specs.Removal.{card_count}
 use Rattle.model.specs.Runs.{Reply, refused, seen, line, shown, shown_payload, look_reply, more_reply}
 use Rattle.model.proofs.Entries.{Settled, all_settled}
-use Rattle.lines.specs.declared.line.Payload as shown-line
+use Rattle.lines.specs.declared.line.Payload as shown_line
 use Rattle.lines.specs.declared.line.Payload.TheVariants as payload
 use Rattle.lines.specs.declared.line.Line as lines
 use Rattle.lines.specs.Shown.{value_of, Shows}
@@ -29,7 +29,7 @@ clash e = absurd (omega arith)
 -- The first line of a payload
 
 -- a line with a value shows it
-pub value_shown : (v : shown-line.Payload) (p : Payload) → (v ≡ payload.None → ⊥) → value_of v ≡ first_value p → payload_of v ≡ shown_payload p
+pub value_shown : (v : shown_line.Payload) (p : Payload) → (v ≡ payload.None → ⊥) → value_of v ≡ first_value p → payload_of v ≡ shown_payload p
 value_shown payload.None p some e = absurd (some refl)
 value_shown payload.Void none some e = clash (cc)
 value_shown payload.Void void some e = refl
@@ -78,7 +78,7 @@ module _ (file : List ℕ) (byte : ℕ) (b : Bool) (k : ContinuedAt file byte b)
 
 -- The face
 
-pub face_right : (e : Entry) (v : lines.Line) (p : shown-line.Payload) (filed : Payload) → e.level ≤ 63 → Shows v (line_of e.level e.identifier e.tag (first_value filed)) → payload_of p ≡ shown_payload e.payload → entry v.level (bytes_in v.identifier) v.tag.now (payload_of p) ≡ shown e
+pub face_right : (e : Entry) (v : lines.Line) (p : shown_line.Payload) (filed : Payload) → e.level ≤ 63 → Shows v (line_of e.level e.identifier e.tag (first_value filed)) → payload_of p ≡ shown_payload e.payload → entry v.level (bytes_in v.identifier) v.tag.now (payload_of p) ≡ shown e
 face_right e v p filed low s is =
     let level : v.level ≡ e.level = s.level ∙ (let z : min 100 e.level ≡ e.level = omega arith in z) in
     λ i. entry (level i) (s.identifier i) (s.tag i) (is i)

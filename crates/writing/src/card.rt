@@ -1,6 +1,6 @@
 // What is written of a card, and how much that is.
 ghost use Rattle.std.specs.Prelude.{◌≡◌, ℕ, ◌+◌, ◌≤◌, List, [], ◌∷◌, ◌++◌, length};
-ghost use Rattle.model.specs.Lines.{VOID as void-bytes};
+ghost use Rattle.model.specs.Lines.{VOID as void_bytes};
 ghost use Rattle.model.specs.Datasets.{Entry, continuations, with_line_feeds};
 ghost use Rattle.looking.specs.Looking.{Shown};
 ghost use Rattle.writing.specs.Written.{Adds, card_bytes};
@@ -54,7 +54,7 @@ fn put_continued(buffer: &mut [u8], at: usize, behind: Cursor<'_>) -> usize
 
 // A pointer that became void, and the end of its line.
 fn put_void(buffer: &mut [u8], at: usize) -> usize
-    ensures { Adds buffer.old at (32 ∷ void-bytes ++ 10 ∷ []) result buffer.new }
+    ensures { Adds buffer.old at (32 ∷ void_bytes ++ 10 ∷ []) result buffer.new }
 {
     let end = put(buffer, at, b" ");
     put_line(buffer, end, VOID)
