@@ -4,9 +4,10 @@ function into Type in upper camel case. A dash stays behind a type at the head o
 
 usage: respell.py [FOLDER]      FOLDER is the top of the repository, by default the one that holds this script
 
-It goes once over the repository as /opt/rattle/port/port.py leaves it. Names that a library declares stay in the files
-that import them, and so do the names that Rattle makes of the source: what a proof file answers, and what stands behind
-goal., c., l., w. or g. there. Strings, sources and must-fail edits keep their words, but for clauses and ghost items.
+It goes once over the repository as /opt/rattle/port/port.py leaves it, and prints each name with its new spelling. Names
+that a library declares stay in the files that import them, and so do the names that Rattle makes of the source: what a
+proof file answers, and what stands behind goal., c., l., w. or g. there. In .rt files and must-fail edits it turns names
+with a dash, which Rust has none of, and those of TYPES.
 """
 
 import collections
@@ -17,7 +18,7 @@ import sys
 NAME = r"[^\s(){}.;,@\"«»]+"
 TYPES = {"performs": "PerformsEvent", "two_digits": "TwoDigits", "record-tag": "TagOfRecord"}
 MADE = re.compile(r"(?:^|[^\w'])(?:goal|c|l|w|g)$")
-ANSWERS = re.compile(r"/proofs/(?:.*/)?(?:Answers|Invariants|Choices|Proof)\.antt$")
+ANSWERS = re.compile(r"/proofs/(?:.*/)?(?:Answers|Invariants|Proof)\.antt$")
 COMMENT = re.compile(r"(?m)(?:^|(?<=\s))--.*$")
 
 
@@ -34,14 +35,20 @@ def read(path):
         return f.read()
 
 
-def imports(text, own):
-    """The names that a file has from libraries that are not this repository's."""
-    found = set()
-    for path, names in re.findall(r"(?m)^\s*(?:pub )?(?:ghost )?use ([^\s{;]+)\.\{([^}]*)\}", text):
-        parts = path.split(".")
-        if not (parts[0] == "Rattle" and parts[1] in own):
-            found |= {n.strip().split(" as ")[-1].strip() for n in names.split(",")}
-    return found
+def uses(text):
+    """What each use line brings in: whose it is, what the file calls it, and whether by a name that the line gives."""
+    line = r"(?m)^\s*(?:pub )?(?:ghost )?use "
+    for path, items in re.findall(line + r"([^\s{;]+)\.\{([^}]*)\}", text):
+        for item in items.split(","):
+            name, given, alias = item.strip().partition(" as ")
+            yield path, alias.strip() if given else name, bool(given)
+    for path, alias in re.findall(line + rf"([^\s{{;]+) as ({NAME})", text):
+        yield path, alias, True
+
+
+def is_own(path, own):
+    parts = path.split(".")
+    return parts[0] == "Rattle" and parts[1] in own
 
 
 def declared(text):
@@ -65,14 +72,10 @@ def declared(text):
 def spelled(name):
     if name in TYPES:
         return TYPES[name]
-    name = name.replace("′", "'")
-    head, dash, rest = name.partition("-")
-    if not dash:
-        return name
-    rest = rest.replace("-", "_")
+    head, dash, rest = name.replace("′", "'").partition("-")
     if re.match(r"[A-Z].*[a-z]", head):
-        return head + "-" + rest
-    return head + "_" + rest
+        return head + dash + rest.replace("-", "_")
+    return (head + dash + rest).replace("-", "_")
 
 
 def turn(text, table, stay, answers):
@@ -98,20 +101,12 @@ def turn(text, table, stay, answers):
 def main():
     top = os.path.realpath(sys.argv[1] if len(sys.argv) > 1 else os.path.join(os.path.dirname(__file__), ".."))
     own = set(os.listdir(os.path.join(top, "crates")))
-    names, where, made = set(), collections.defaultdict(set), {}
+    names, made = set(), {}
     for path in files(top, ".antt"):
         found, made[path] = declared(read(path))
         names |= found
-        for n in found:
-            where[n].add(path)
-    # what a use line calls a name of this repository in one file
-    for path in list(files(top, ".antt")) + list(files(top, ".rt")):
-        for head, alias in re.findall(rf"(?m)^\s*(?:pub )?(?:ghost )?use ([^;\n]*?) as ({NAME})\s*;?$", read(path)):
-            if head.split(".")[0] == "Rattle" and head.split(".")[1] in own:
-                names.add(alias)
-        for head, items in re.findall(r"(?m)^\s*(?:pub )?(?:ghost )?use ([^\s{;]+)\.\{([^}]*)\}", read(path)):
-            if head.split(".")[0] == "Rattle" and head.split(".")[1] in own:
-                names |= {item.split(" as ")[1].strip() for item in items.split(",") if " as " in item}
+    for path in [*files(top, ".antt"), *files(top, ".rt")]:
+        names |= {name for of, name, given in uses(read(path)) if given and is_own(of, own)}
     table = {}
     for n in names:
         if n in TYPES or "′" in n or ("-" in n.strip("-") and re.search("[A-Za-z]", n) and not re.match(r"[\d-]", n)):
@@ -126,9 +121,11 @@ def main():
     for n, new in sorted(table.items()):
         if met[new] > 1:
             print(f"respell: {n} and {new} would fall together", file=sys.stderr)
-    for path in list(files(top, ".antt")) + list(files(top, ".rt")) + list(files(top, ".edit")):
+    for path in [*files(top, ".antt"), *files(top, ".rt"), *files(top, ".edit")]:
         text = read(path)
-        stay = imports(text, own) - (declared(text)[0] if path.endswith(".antt") else set())
+        stay = {name for of, name, _ in uses(text) if not is_own(of, own)}
+        if path.endswith(".antt"):
+            stay -= declared(text)[0]
         answers = made.get(path, set()) if ANSWERS.search(path) else None
         words = table
         if not path.endswith(".antt"):
