@@ -2,7 +2,9 @@
 // types that both speak of, and functions that do nothing but name a law, so that the check asks for its proof.
 #![tactic(auto)]
 
+ghost use Rattle.std.specs.Prelude.{◌≡◌};
 ghost use Rattle.model.specs.Calls.{PerformsEvent};
+ghost use Rattle.model.specs.Refusals.{refusal_number};
 ghost use Rattle.model.specs.Examples.{WorkedExamples, RemovalExamples};
 ghost use Rattle.model.specs.Laws.{Promised, LinedOnce, SameLinesOnce, LinesOnce, HeldOnce, RefusedOnce, WrittenHasLines, BelongsKept, DatasetKept, AfterKept, PremisesMet};
 
@@ -12,6 +14,14 @@ ghost use Rattle.model.specs.Laws.{Promised, LinedOnce, SameLinesOnce, LinesOnce
 pub struct Card {
     pub byte: u32,
     pub state: State,
+}
+
+impl Card {
+    // Names no line.
+    pub const BLANK: Card = Card {
+        byte: 0,
+        state: State::Blank,
+    };
 }
 
 // No drawer takes more cards than this, however many it has.
@@ -79,11 +89,11 @@ pub struct Fault {
     pub missing: Option<u16>,
 }
 
-// Why a call on a drawer says no. A reading has faults of its own, which tell a place in the file.
+// Why a call on a drawer says no, with its number. A reading has faults of its own, which tell a place in the file.
 #[derive(Clone, Copy, PartialEq, Eq, Debug)]
 pub enum Refusal {
     // the drawer holds no dataset of the file
-    Unheld,
+    Unheld = 20,
     // that dataset does not belong to the book
     Foreign,
     // the card is the first, the last or past them
@@ -96,6 +106,15 @@ pub enum Refusal {
     Oversized,
     // the buffer is shorter than the written form
     Cramped,
+}
+
+impl Refusal {
+    // Its number.
+    pub fn number(self) -> u8
+        ensures { result ≡ refusal_number self }
+    {
+        self as u8
+    }
 }
 
 // What a removal does to the cards, by their positions: nothing, since a structure is held; those from one up to another go;
