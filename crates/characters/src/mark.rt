@@ -8,8 +8,7 @@ pub fn without_mark(file: &[u8]) -> &[u8]
     ensures { TakenOff file.now result.now }
 {
     match file {
-        [first, second, third, rest @ ..]
-            if *first == MARK[0] && *second == MARK[1] && *third == MARK[2] => rest,
+        [first, second, third, rest @ ..] if [*first, *second, *third] == MARK => rest,
         _ => file,
     }
 }

@@ -1,8 +1,8 @@
 ghost use Rattle.std.specs.Prelude.{◌≡◌, ◌<◌, ◌≤◌, true, length, slice_index};
-ghost use Rattle.model.specs.Bytes.{is_next, is_second, width_at, banned_at};
-ghost use Rattle.model.specs.LineTurns.{note as noted};
+ghost use Rattle.model.specs.Bytes.{is_next, is_second, banned_at};
 ghost use Rattle.model.specs.Refusals.{is_end_at};
 ghost use Rattle.characters.specs.Faults.{Checks};
+ghost use Rattle.characters.specs.Widths.{WidthAt};
 
 use crate::fault::ByteFault;
 use crate::lead::announced;
@@ -15,14 +15,14 @@ pub const LIMIT: usize = 16_777_216;
 fn byte(file: &[u8], i: usize) -> u8
     ensures { result ≡ slice_index file.now i }
 {
-    if i < file.len() { file[i] } else { 0 }
+    file.get(i).copied().unwrap_or(0)
 }
 
 // Whether a byte goes on with a character.
 fn goes_on(b: u8) -> bool
     ensures { result ≡ is_next b }
 {
-    b >= 0x80 && b < 0xC0
+    matches!(b, 0x80..=0xBF)
 }
 
 // Whether `b` is the second byte of three or four after `a`: not every one is after E0, ED, F0 and F4, where it would
@@ -43,35 +43,23 @@ fn goes_second(a: u8, b: u8) -> bool
     b >= least && b < past
 }
 
-// How many bytes the character at `i` has, or 0 where none begins there.
-fn width(file: &[u8], i: usize) -> usize
+// How many bytes the character at `i` has, or none where no character begins there.
+fn width(file: &[u8], i: usize) -> Option<usize>
     requires { (length file.now ≤ 16777216) × (i < length file.now) }
-    ensures { result ≡ width_at file.now i }
+    ensures { WidthAt file.now i result }
 {
-    let a = file[i];
-    let announced = announced(a);
-    if announced == 1 {
-        1
-    } else if announced == 2 {
-        if goes_on(byte(file, i + 1)) { 2 } else { 0 }
-    } else if announced == 3 {
-        if goes_second(a, byte(file, i + 1)) && goes_on(byte(file, i + 2)) {
-            3
-        } else {
-            0
-        }
-    } else if announced == 4 {
-        if goes_second(a, byte(file, i + 1))
+    let lead = file[i];
+    let width = announced(lead);
+    let whole = match width {
+        1 => true,
+        2 => goes_on(byte(file, i + 1)),
+        3 => goes_second(lead, byte(file, i + 1)) && goes_on(byte(file, i + 2)),
+        4 => goes_second(lead, byte(file, i + 1))
             && goes_on(byte(file, i + 2))
-            && goes_on(byte(file, i + 3))
-        {
-            4
-        } else {
-            0
-        }
-    } else {
-        0
-    }
+            && goes_on(byte(file, i + 3)),
+        _ => false,
+    };
+    whole.then_some(width as usize)
 }
 
 // Whether the character that begins at `i` is banned: the controls but tab, LF and CR; DEL and the second controls, which
@@ -80,17 +68,12 @@ fn banned(file: &[u8], i: usize) -> bool
     requires { (length file.now ≤ 16777216) × (i < length file.now) }
     ensures { result ≡ banned_at file.now i }
 {
-    let a = file[i];
-    if a < 0x20 {
-        a != b'\t' && a != b'\n' && a != b'\r'
-    } else if a == 0x7F {
-        true
-    } else if a == 0xC2 {
-        byte(file, i + 1) < 0xA0
-    } else if a == 0xEF {
-        byte(file, i + 1) == 0xBF && byte(file, i + 2) > 0xBD
-    } else {
-        false
+    match file[i] {
+        b'\t' | b'\n' | b'\r' => false,
+        0x00..=0x1F | 0x7F => true,
+        0xC2 => byte(file, i + 1) < 0xA0,
+        0xEF => byte(file, i + 1) == 0xBF && byte(file, i + 2) > 0xBD,
+        _ => false,
     }
 }
 
@@ -107,17 +90,7 @@ fn ends_line(file: &[u8], i: usize) -> bool
 fn is_plain(b: u8) -> bool
     ensures { result ≡ true → (32 ≤ b) × (b < 127) }
 {
-    b >= 0x20 && b < 0x7F
-}
-
-// The first place that is noted stays.
-fn note(first: Option<Place>, broken: bool, here: Place) -> Option<Place>
-    ensures { result ≡ noted first broken here }
-{
-    match first {
-        Some(place) => Some(place),
-        None => if broken { Some(here) } else { None },
-    }
+    matches!(b, b' '..=b'~')
 }
 
 // Whether the bytes are a file's: few enough, UTF-8, and no character of them banned. A banned character is only noted
@@ -131,6 +104,7 @@ pub fn check(file: &[u8]) -> Result<(), ByteFault>
     let mut i = 0;
     let mut ends: u32 = 0;
     let mut found: Option<Place> = None;
+    // the place steps by whole characters, so no iterator over the bytes counts it
     while i < file.len() {
         if is_plain(file[i]) {
             i += 1;
@@ -140,11 +114,10 @@ pub fn check(file: &[u8]) -> Result<(), ByteFault>
             line: ends + 1,
             byte: i as u32,
         };
-        let width = width(file, i);
-        if width == 0 {
+        let Some(width) = width(file, i) else {
             return Err(ByteFault::Malformed(here));
-        }
-        found = note(found, banned(file, i), here);
+        };
+        found = found.or(banned(file, i).then_some(here));
         if ends_line(file, i) {
             ends += 1;
         }
