@@ -33,7 +33,7 @@ impl ByteFault {
         ensures { result ≡ byte_fault self.now }
     {
         match *self {
-            ByteFault::TooLong => fault_at(1, Place { line: 0, byte: 0 }),
+            ByteFault::TooLong => fault_at(1, Place::NOWHERE),
             ByteFault::Malformed(at) => fault_at(2, at),
             ByteFault::Banned(at) => fault_at(3, at),
         }

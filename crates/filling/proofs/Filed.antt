@@ -1,11 +1,10 @@
 -- Cards for the lines of a file, one line after the other. Assumes nothing.
-use Rattle.std.proofs.Common.{◌≡◌, ℕ, ◌+◌, ◌<◌, ◌≤◌, min, Bool, true, false, cond, List, [], ◌∷◌, ◌++◌, map, length, get_or, take, drop, set, Some, None, sym, refl, ap, ◌∙◌, subst, inl, inr, append_assoc, append-nil, arith, length-append, length-take}
+use Rattle.std.proofs.Common.{◌≡◌, ℕ, zero, suc, replicate, length-drop, ◌+◌, ◌-◌, ◌<◌, ◌≤◌, min, Bool, true, false, cond, List, [], ◌∷◌, ◌++◌, map, length, get_or, take, drop, set, Some, None, sym, refl, ap, ◌∙◌, subst, inl, inr, append_assoc, append-nil, arith, length-append}
 use mathlib.Core.List.{map-append}
 use lib.ListN.{length-map}
 use Rattle.std.specs.Str.{bytes_eq}
-use Rattle.std.proofs.ByRecursion.{All-push}
 use Rattle.std.proofs.lemmas.Slice.Eq.{bytes_eq-Decides}
-use Rattle.std.proofs.lemmas.List.{take-append-drop, take_all, drop_all, drop_more, set_at, get_or_at, length_push}
+use Rattle.std.proofs.lemmas.List.{take_min, take_all, drop_all, drop_more, set_at, get_or_at, length_push}
 use Rattle.std.proofs.lemmas.Bool.{cases_lt, cases_Bool, cond-false}
 use Rattle.model.specs.declared.Card.{Card}
 use Rattle.model.specs.declared.Place.{Place}
@@ -21,37 +20,23 @@ use Rattle.model.proofs.Scans.{filed_push}
 use Rattle.lines.specs.declared.steps.Found.{Found}
 use Rattle.lines.specs.Steps.{Comes}
 use Rattle.filling.specs.Filling.{card_at, BlankFrom, Filled, Puts}
-use Rattle.looking.proofs.Left.{Left, left_start, left_comes, left_end}
+use Rattle.lines.specs.Iterating.{StopsAt}
+use Rattle.looking.proofs.Left.{Left, left_start, left_comes, left_stops}
 
 -- Blanks
 
--- the cards from `from` up to i are blank, and no other changed
-pub record Blanking (from i : ℕ) (cards out : List Card) : Type 0 where
-  pub blanks : List Card
-  pub rest_blank : Blanks blanks
-  pub long : from + length blanks ≡ i
-  pub are : out ≡ take from cards ++ (blanks ++ drop i cards)
+so_many : (n : ℕ) → Blanks (replicate n blank)
+so_many zero = tt
+so_many (suc n) = (refl, so_many n)
 
-pub blanking_start : (from : ℕ) (cards : List Card) → Blanking from from cards cards
-blanking_start from cards = record { blanks = []; rest_blank = tt; long = omega arith; are = sym (take-append-drop from cards) }
-
-pub blanking_more : (from i : ℕ) (cards out : List Card) → Blanking from i cards out → i < length cards → Blanking from (i + 1) cards (set out i blank)
-blanking_more from i cards out b h =
-    let long = b.long in
-    let fit : length (take from cards ++ b.blanks) ≡ i = omega (arith, length-append (take from cards) b.blanks, length-take from cards) in
-    let parts : out ≡ (take from cards ++ b.blanks) ++ get_or cards i blank ∷ drop (i + 1) cards = b.are ∙ ap (λ xs. take from cards ++ (b.blanks ++ xs)) (drop_more cards i blank h) ∙ sym (append_assoc (take from cards) b.blanks _) in
-    record {
-      blanks = b.blanks ++ blank ∷ [];
-      rest_blank = All-push (λ c. c ≡ blank) b.blanks blank b.rest_blank refl;
-      long = omega (arith, length_push b.blanks blank);
-      are = ap (λ xs. set xs i blank) parts ∙ set_at (take from cards ++ b.blanks) (get_or cards i blank) (drop (i + 1) cards) blank i fit ∙ append_assoc (take from cards) b.blanks (blank ∷ drop (i + 1) cards) ∙ ap (λ xs. take from cards ++ xs) (sym (append_assoc b.blanks (blank ∷ []) (drop (i + 1) cards)));
-    }
-
-pub blanking_end : (from i : ℕ) (cards out : List Card) → Blanking from i cards out → length cards ≤ i → BlankFrom from cards out
-blanking_end from i cards out b h = record {
-  blanks = b.blanks;
-  are = b.are ∙ ap (λ xs. take from cards ++ (b.blanks ++ xs)) (drop_all i cards h) ∙ ap (λ xs. take from cards ++ xs) (append-nil b.blanks);
-  rest_blank = b.rest_blank;
+-- the cards from `from` on made blank, where there are so many
+pub blanked : (from at n : ℕ) (cards new : List Card) → at ≡ min from (length cards) → new ≡ replicate n blank → BlankFrom from cards (take at cards ++ (new ++ drop (length cards - at) (drop at cards)))
+blanked from at n cards new e is = record {
+  blanks = new;
+  are =
+      ap (λ k. take k cards ++ (new ++ drop (length cards - at) (drop at cards))) e ∙ ap (λ xs. xs ++ (new ++ drop (length cards - at) (drop at cards))) (take_min from cards)
+      ∙ ap (λ xs. take from cards ++ xs) (ap (λ xs. new ++ xs) (drop_all (length cards - at) (drop at cards) (omega (arith, length-drop at cards))) ∙ append-nil new);
+  rest_blank = subst Blanks (sym is) (so_many n);
 }
 
 pub all_blank : (cards out : List Card) → BlankFrom 0 cards out → Blanks out
@@ -131,9 +116,9 @@ filling_more file ps cards from lines count out f next lines' count' out' same g
 
 -- the end
 
-pub filling_done : (file : List ℕ) (ps : List Placed) (cards : List Card) (from lines count : ℕ) (out last : List Card) → length file ≤ from → Filling file ps cards from lines count out → BlankFrom count out last → Filled (length cards) count last ps
+pub filling_done : (file : List ℕ) (ps : List Placed) (cards : List Card) (from lines count : ℕ) (out last : List Card) → StopsAt file from → Filling file ps cards from lines count out → BlankFrom count out last → Filled (length cards) count last ps
 filling_done file ps cards from lines count out last end g b =
-    let none = left_end file from g.rest g.left end in
+    let none = left_stops file from g.rest g.left end in
     let all : ps ≡ g.before = g.are ∙ ap (λ qs. g.before ++ qs) none ∙ append-nil g.before in
     let filed_is : filed ps ≡ filed g.before = ap filed all in
     let count_is = g.counted in

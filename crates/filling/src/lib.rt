@@ -6,7 +6,7 @@ ghost use Rattle.model.specs.Refusals.{Short};
 ghost use Rattle.filling.specs.Filling.{BlankFrom, Fills, Puts};
 
 use characters::LIMIT;
-use lines::{Cursor, Found, Step};
+use lines::{Cursor, Found};
 use looking::is_continuation;
 use model::{Card, MOST, Place, State};
 
@@ -14,14 +14,8 @@ use model::{Card, MOST, Place, State};
 pub fn blank_from(drawer: &mut [Card], from: usize)
     ensures { BlankFrom from drawer.old drawer.new }
 {
-    let mut i = from;
-    while i < drawer.len() {
-        drawer[i] = Card {
-            byte: 0,
-            state: State::Blank,
-        };
-        i += 1;
-    }
+    let from = from.min(drawer.len());
+    drawer[from..].fill(Card::BLANK);
 }
 
 // One line more: its card is put at `count`, unless it continues another. None if no card is left for it.
@@ -46,22 +40,17 @@ fn fill_short(file: &[u8], drawer: &mut [Card]) -> Result<usize, Place>
     requires { Short file.now }
     ensures { Fills file.now (length drawer.old) result drawer.new }
 {
-    let mut cursor = Cursor::new(file);
     let mut count = 0;
-    loop {
-        match cursor.step() {
-            Step::End => break,
-            Step::Broken => break,
-            Step::Line(found) => match put(drawer, count, found) {
-                Some(next) => count = next,
-                None => {
-                    blank_from(drawer, 0);
-                    return Err(Place {
-                        line: found.number as u32,
-                        byte: found.byte as u32,
-                    });
-                }
-            },
+    for found in Cursor::new(file) {
+        match put(drawer, count, found) {
+            Some(next) => count = next,
+            None => {
+                blank_from(drawer, 0);
+                return Err(Place {
+                    line: found.number as u32,
+                    byte: found.byte as u32,
+                });
+            }
         }
     }
     blank_from(drawer, count);

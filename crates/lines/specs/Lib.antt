@@ -4,3 +4,4 @@ pub mod Steps
 pub mod Faults
 pub mod Scans
 pub mod Counts
+pub mod Iterating

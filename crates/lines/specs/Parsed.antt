@@ -1,17 +1,7 @@
 -- What the parts of a line are, and what a line that was read shows. Assumes nothing.
-use Rattle.std.specs.Prelude.{◌≡◌, ℕ, min, Bool, List, ◌∷◌, Some, None, Option, MatchOption}
+use Rattle.std.specs.Prelude.{◌≡◌, ℕ, min, List, ◌∷◌, Some, None, Option, MatchOption}
 use Rattle.std.specs.Borrow.{Bor}
-use Rattle.std.specs.Char.{is_ascii_digit}
-use Rattle.model.specs.Lines.{tag_char}
-use Rattle.model.specs.Scan.{in_line, read_level, read_name, marked, read_tag}
-use Rattle.lines.specs.declared.part.Class.{Class}
-use Rattle.lines.specs.declared.part.Class.TheVariants.{Digit, Tag, Inside}
-
--- the bytes of each class
-abbrev pub passes : Class → ℕ → Bool
-passes Digit c = is_ascii_digit c
-passes Tag c = tag_char c
-passes Inside c = in_line c
+use Rattle.model.specs.Scan.{read_level, read_name, marked, read_tag}
 
 -- a part of the file
 abbrev pub Part : Type 0

@@ -1,5 +1,5 @@
 -- What a cursor over the lines of a file comes to. Assumes nothing.
-use Rattle.std.specs.Prelude.{◌≡◌, ℕ, ◌+◌, ◌<◌, ◌≤◌, ◌⊎◌, List, [], ◌∷◌, ◌++◌, length, drop, Some, None}
+use Rattle.std.specs.Prelude.{◌≡◌, ℕ, ◌+◌, ◌<◌, ◌≤◌, ◌⊎◌, List, [], ◌∷◌, ◌++◌, length, drop, Some, None, Ok, Err, Option, Result}
 use Rattle.model.specs.Lines.{Line}
 use Rattle.model.specs.Files.{Placed, Lined}
 use Rattle.model.specs.Refusals.{Unlined}
@@ -7,8 +7,7 @@ use Rattle.model.specs.LineTurns.{Scanned, line_end, next_line}
 use Rattle.model.specs.Scan.{front, in_line, parse}
 use Rattle.lines.specs.Shown.{Shows}
 use Rattle.lines.specs.declared.steps.Found.{Found}
-use Rattle.lines.specs.declared.steps.Step.{Step}
-use Rattle.lines.specs.declared.steps.Step.TheVariants as step
+use Rattle.lines.specs.declared.steps.NoLine.{NoLine}
 
 -- the bytes from `at` to the next line end
 abbrev pub bytes_at : List ℕ → ℕ → List ℕ
@@ -32,19 +31,19 @@ NoLineAt file at = (at < length file) × ((parse (bytes_at file at) ≡ None) �
 abbrev pub Stays : ℕ → ℕ → ℕ → ℕ → Type 0
 Stays at n at' n' = (at' ≡ at) × (n' ≡ n)
 
-abbrev pub Steps : List ℕ → ℕ → ℕ → ℕ → ℕ → Step → Type 0
-Steps file at n at' n' step.End = (length file ≤ at) × Stays at n at' n'
-Steps file at n at' n' step.Broken = NoLineAt file at × Stays at n at' n'
-Steps file at n at' n' (step.Line f) = Comes file at n at' n' f
+abbrev pub Steps : List ℕ → ℕ → ℕ → ℕ → ℕ → Result (Option Found) NoLine → Type 0
+Steps file at n at' n' (Ok None) = (length file ≤ at) × Stays at n at' n'
+Steps file at n at' n' (Err e) = NoLineAt file at × Stays at n at' n'
+Steps file at n at' n' (Ok (Some f)) = Comes file at n at' n' f
 
 -- a line comes with its bytes, without its end
-abbrev pub BytesCome : List ℕ → ℕ → Step → Type 0
-BytesCome file at step.End = Unit {0}
-BytesCome file at step.Broken = Unit {0}
-BytesCome file at (step.Line f) = f.bytes.now ≡ bytes_at file at
+abbrev pub BytesCome : List ℕ → ℕ → Result (Option Found) NoLine → Type 0
+BytesCome file at (Ok None) = Unit {0}
+BytesCome file at (Err e) = Unit {0}
+BytesCome file at (Ok (Some f)) = f.bytes.now ≡ bytes_at file at
 
 -- Of the file's lines ps are those before `at`: then there are no others, no line stands here, or p is the next, in its place.
-abbrev pub Gives : List ℕ → List Placed → ℕ → Step → Type 0
-Gives file ps at' step.End = Lined file ps
-Gives file ps at' step.Broken = Unlined file ps
-Gives file ps at' (step.Line f) = (p : Placed) × (f.byte ≡ p.byte) × (f.number ≡ length ps + 1) × Shows f.line p.line × Scanned file (ps ++ p ∷ []) at'
+abbrev pub Gives : List ℕ → List Placed → ℕ → Result (Option Found) NoLine → Type 0
+Gives file ps at' (Ok None) = Lined file ps
+Gives file ps at' (Err e) = Unlined file ps
+Gives file ps at' (Ok (Some f)) = (p : Placed) × (f.byte ≡ p.byte) × (f.number ≡ length ps + 1) × Shows f.line p.line × Scanned file (ps ++ p ∷ []) at'

@@ -3,9 +3,9 @@ ghost use Rattle.std.specs.Prelude.{◌≤◌, length};
 // A cursor over the lines of a file: how many came, and where the next begins.
 #[derive(Clone, Copy)]
 pub struct Cursor<'a> {
-    pub(crate) file: &'a [u8],
-    pub(crate) at: usize,
-    pub(crate) lines: usize,
+    pub file: &'a [u8],
+    pub at: usize,
+    pub lines: usize,
     ghost within: { at ≤ length file.now },
     ghost few: { lines ≤ at },
 }

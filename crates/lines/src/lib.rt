@@ -13,4 +13,4 @@ pub use cursor::Cursor;
 pub use fault::LineFault;
 pub use line::{CONC, CONT, HEAD, Line, Payload, TRLR, VOID, parse};
 pub use rules::{Counts, check};
-pub use steps::{Found, Step};
+pub use steps::{Found, NoLine};

@@ -1,8 +1,8 @@
 // What one line says.
-ghost use Rattle.std.specs.Prelude.{◌≡◌, Decides, slice_index};
-ghost use Rattle.model.specs.Lines as lines;
+ghost use Rattle.std.specs.Prelude.{◌≡◌};
+ghost use Rattle.model.specs.LineTurns.{is_pointer};
 ghost use Rattle.model.specs.Scan.{read_payload, read_value};
-ghost use Rattle.lines.specs.Shown.{ReadsIdentifier, ReadsValue, PointsTo, Parsed, Spelled};
+ghost use Rattle.lines.specs.Shown.{value_of, ReadsIdentifier, ReadsValue, PointsTo, Parsed, Spelled};
 
 use crate::part::{read_level, read_marked, read_space, read_tag};
 
@@ -31,6 +31,15 @@ pub enum Payload<'a> {
     Text(&'a [u8]),
 }
 
+impl Payload<'_> {
+    // Whether it points to a record, or to none by name.
+    pub fn is_pointer(self) -> bool
+        ensures { result ≡ is_pointer (value_of self.entry) }
+    {
+        matches!(self, Payload::Void | Payload::Pointer(_))
+    }
+}
+
 // One line, its end aside. Its level is counted up to 100, since every level above 63 is refused alike.
 #[derive(Clone, Copy)]
 pub struct Line<'a> {
@@ -40,12 +49,6 @@ pub struct Line<'a> {
     pub payload: Payload<'a>,
 }
 
-fn is_void(pointer: &[u8]) -> bool
-    ensures { Decides result (pointer.now ≡ lines.VOID) }
-{
-    pointer == VOID
-}
-
 // The identifier and the space behind it, where the part begins with @, and what follows.
 fn read_identifier(bytes: &[u8]) -> Option<(Option<&[u8]>, &[u8])>
     ensures { ReadsIdentifier bytes.now result }
@@ -53,7 +56,7 @@ fn read_identifier(bytes: &[u8]) -> Option<(Option<&[u8]>, &[u8])>
     match bytes {
         [b'@', ..] => {
             let (identifier, rest) = read_marked(bytes)?;
-            if is_void(identifier) {
+            if identifier == VOID {
                 return None;
             }
             Some((Some(identifier), read_space(rest)?))
@@ -70,34 +73,22 @@ fn read_pointer(bytes: &[u8]) -> Option<Payload<'_>>
     if !rest.is_empty() {
         return None;
     }
-    if is_void(pointer) {
+    if pointer == VOID {
         Some(Payload::Void)
     } else {
         Some(Payload::Pointer(pointer))
     }
 }
 
-fn begins_with_at(bytes: &[u8]) -> bool
-    ensures { Decides result (slice_index bytes.now 0 ≡ 64) }
-{
-    !bytes.is_empty() && bytes[0] == b'@'
-}
-
 // What stands behind the space: a pointer, or a text that is not empty and whose first @ is doubled.
 fn read_text(bytes: &[u8]) -> Option<Payload<'_>>
     ensures { ReadsValue read_payload bytes.now result }
 {
-    if bytes.is_empty() {
-        return None;
-    }
-    if !begins_with_at(bytes) {
-        return Some(Payload::Text(bytes));
-    }
-    let behind = &bytes[1..];
-    if begins_with_at(behind) {
-        Some(Payload::Text(behind))
-    } else {
-        read_pointer(bytes)
+    match bytes {
+        [] => None,
+        [b'@', text @ ..] if text.starts_with(b"@") => Some(Payload::Text(text)),
+        [b'@', ..] => read_pointer(bytes),
+        text => Some(Payload::Text(text)),
     }
 }
 

@@ -56,126 +56,108 @@ pub struct Scan {
     pub here: Place,
 }
 
-fn same(tag: &[u8], name: &[u8]) -> bool
-    ensures { result ≡ bytes_eq tag.now name.now }
-{
-    tag == name
-}
-
-fn is_pointer(payload: Payload<'_>) -> bool
-    ensures { result ≡ pointing (value_of payload.entry) }
-{
-    match payload {
-        Payload::Void | Payload::Pointer(_) => true,
-        Payload::None | Payload::Text(_) => false,
-    }
-}
-
-fn is_none(payload: Payload<'_>) -> bool
-    ensures { result ≡ is_nothing (value_of payload.entry) }
-{
-    match payload {
-        Payload::None => true,
-        Payload::Void | Payload::Pointer(_) | Payload::Text(_) => false,
-    }
-}
-
 pub fn look(line: Line<'_>) -> Seen
     ensures { Sees line.entry result }
 {
     Seen {
         level: line.level,
         named: line.identifier.is_some(),
-        header: same(line.tag, HEAD),
-        trailer: same(line.tag, TRLR),
-        continuation: same(line.tag, CONT),
-        concatenation: same(line.tag, CONC),
-        pointing: is_pointer(line.payload),
-        empty: is_none(line.payload),
+        header: line.tag == HEAD,
+        trailer: line.tag == TRLR,
+        continuation: line.tag == CONT,
+        concatenation: line.tag == CONC,
+        pointing: line.payload.is_pointer(),
+        empty: matches!(line.payload, Payload::None),
     }
 }
 
-fn note(first: Option<Place>, broken: bool, here: Place) -> Option<Place>
-    ensures { result ≡ noted first broken here }
-{
-    match first {
-        Some(place) => Some(place),
-        None => if broken { Some(here) } else { None },
+impl Seen {
+    // Whether a line with `n` before it breaks the rule of the header.
+    fn breaks_header(self, n: u32) -> bool
+        ensures { result ≡ breaks6 n (seen self) }
+    {
+        let top = self.level == 0 && self.header;
+        if n == 0 {
+            !(top && !self.named && self.empty)
+        } else {
+            top
+        }
+    }
+
+    fn is_trailer(self) -> bool
+        ensures { result ≡ is_trailer (seen self) }
+    {
+        self.level == 0 && self.trailer
+    }
+
+    fn is_bare_trailer(self) -> bool
+        ensures { result ≡ closes (seen self) }
+    {
+        self.is_trailer() && !self.named && self.empty
+    }
+
+    fn breaks_steps(self, last: Last) -> bool
+        ensures { result ≡ breaks8 (last_of last) (seen self) }
+    {
+        !self.continuation && self.level.saturating_sub(last.level) > 1
+    }
+
+    fn breaks_names(self) -> bool
+        ensures { result ≡ breaks9 (seen self) }
+    {
+        self.level > 0 && self.named
+    }
+
+    fn breaks_continuations(self, last: Last) -> bool
+        ensures { result ≡ breaks10 (last_of last) (seen self) }
+    {
+        let continues = self.level.saturating_sub(last.level) == 1
+            && !last.first
+            && !last.pointing
+            && !self.pointing;
+        self.concatenation || (self.continuation && !continues)
     }
 }
 
-// Whether a line with `n` before it breaks the rule of the header.
-fn breaks_header(n: u32, v: Seen) -> bool
-    ensures { result ≡ breaks6 n (seen v) }
-{
-    let top = v.level == 0 && v.header;
-    if n == 0 {
-        !(top && !v.named && v.empty)
-    } else {
-        top
-    }
-}
-
-fn is_trailer(v: Seen) -> bool
-    ensures { result ≡ is_trailer (seen v) }
-{
-    v.level == 0 && v.trailer
-}
-
-fn is_bare_trailer(v: Seen) -> bool
-    ensures { result ≡ closes (seen v) }
-{
-    v.level == 0 && v.trailer && !v.named && v.empty
-}
-
-fn breaks_steps(last: Last, v: Seen) -> bool
-    requires { last.level ≤ 100 }
-    ensures { result ≡ breaks8 (last_of last) (seen v) }
-{
-    !v.continuation && last.level + 1 < v.level
-}
-
-fn breaks_names(v: Seen) -> bool
-    ensures { result ≡ breaks9 (seen v) }
-{
-    v.level > 0 && v.named
-}
-
-fn breaks_continuations(last: Last, v: Seen) -> bool
-    requires { last.level ≤ 100 }
-    ensures { result ≡ breaks10 (last_of last) (seen v) }
-{
-    v.concatenation
-        || (v.continuation
-            && !(v.level == last.level + 1 && !last.first && !last.pointing && !v.pointing))
-}
-
-fn last_line(n: u32, last: Last, v: Seen) -> Last
-    ensures { last_of result ≡ last_after n (last_of last) (seen v) }
-{
-    if v.continuation {
-        last
-    } else {
-        Last {
-            level: v.level,
-            pointing: v.pointing,
-            first: n == 0,
+impl Last {
+    // After a line with `n` before it.
+    fn after(self, n: u32, v: Seen) -> Last
+        ensures { last_of result ≡ last_after n (last_of self) (seen v) }
+    {
+        if v.continuation {
+            self
+        } else {
+            Last {
+                level: v.level,
+                pointing: v.pointing,
+                first: n == 0,
+            }
         }
     }
 }
 
-fn noted_line(n: u32, byte: u32, last: Last, v: Seen, notes: Notes) -> Notes
-    requires { (last.level ≤ 100) × (n < 16777216) }
-    ensures { notes_of result ≡ notes_after n byte (last_of last) (seen v) (notes_of notes) }
+// The first place that is noted stays.
+fn note(first: Option<Place>, broken: bool, here: Place) -> Option<Place>
+    ensures { result ≡ noted first broken here }
 {
-    let here = Place { line: n + 1, byte };
-    Notes {
-        levels: note(notes.levels, v.level > 63, here),
-        first: note(notes.first, breaks_header(n, v), here),
-        trailer: note(notes.trailer, is_trailer(v), here),
-        steps: note(notes.steps, breaks_steps(last, v), here),
-        named: note(notes.named, breaks_names(v), here),
-        continued: note(notes.continued, breaks_continuations(last, v), here),
+    first.or(broken.then_some(here))
+}
+
+impl Notes {
+    // After a line with `n` before it, which begins at `byte`.
+    fn after(self, n: u32, byte: u32, last: Last, v: Seen) -> Notes
+        requires { n < 16777216 }
+        ensures { notes_of result ≡ notes_after n byte (last_of last) (seen v) (notes_of self) }
+    {
+        let here = Place { line: n + 1, byte };
+        Notes {
+            levels: note(self.levels, v.level > 63, here),
+            first: note(self.first, v.breaks_header(n), here),
+            trailer: note(self.trailer, v.is_trailer(), here),
+            steps: note(self.steps, v.breaks_steps(last), here),
+            named: note(self.named, v.breaks_names(), here),
+            continued: note(self.continued, v.breaks_continuations(last), here),
+        }
     }
 }
 
@@ -202,13 +184,13 @@ impl Scan {
                 continued: None,
             },
             closed: false,
-            here: Place { line: 0, byte: 0 },
+            here: Place::NOWHERE,
         }
     }
 
     // After one line more, which begins at `byte`.
     pub fn after(self, v: Seen, byte: u32) -> Scan
-        requires { (self.last.level ≤ 100) × ((self.lines < 16777216) × (self.cards ≤ self.lines)) }
+        requires { (self.lines < 16777216) × (self.cards ≤ self.lines) }
         ensures { After self v byte result }
     {
         Scan {
@@ -219,9 +201,9 @@ impl Scan {
                 self.cards + 1
             },
             deepest: self.deepest.max(v.level),
-            last: last_line(self.lines, self.last, v),
-            notes: noted_line(self.lines, byte, self.last, v, self.notes),
-            closed: is_bare_trailer(v),
+            last: self.last.after(self.lines, v),
+            notes: self.notes.after(self.lines, byte, self.last, v),
+            closed: v.is_bare_trailer(),
             here: Place {
                 line: self.lines + 1,
                 byte,
@@ -233,22 +215,24 @@ impl Scan {
     pub fn verdict(self) -> Option<LineFault>
         ensures { Verdict self result }
     {
-        if let Some(at) = self.notes.levels {
+        let notes = self.notes;
+        if let Some(at) = notes.levels {
             return Some(LineFault::TooDeep(at));
         }
-        if let Some(at) = self.notes.first {
+        if let Some(at) = notes.first {
             return Some(LineFault::Header(at));
         }
-        if let Some(at) = broken_trailer(self.notes.trailer, self.closed, self.here) {
+        if let Some(at) = broken_trailer(notes.trailer, self.closed, self.here) {
             return Some(LineFault::Trailer(at));
         }
-        if let Some(at) = self.notes.steps {
+        if let Some(at) = notes.steps {
             return Some(LineFault::Jump(at));
         }
-        if let Some(at) = self.notes.named {
+        if let Some(at) = notes.named {
             return Some(LineFault::Named(at));
         }
-        match self.notes.continued {
+        // not `map`: of a variant in a function's place the proof did not close
+        match notes.continued {
             Some(at) => Some(LineFault::Continuation(at)),
             None => None,
         }
@@ -260,13 +244,8 @@ fn broken_trailer(trailer: Option<Place>, closed: bool, here: Place) -> Option<P
     ensures { result ≡ closing trailer closed here }
 {
     match trailer {
-        Some(place) => if place.line < here.line {
-            Some(place)
-        } else if closed {
-            None
-        } else {
-            Some(here)
-        },
-        None => Some(here),
+        Some(place) if place.line < here.line => Some(place),
+        Some(_) if closed => None,
+        _ => Some(here),
     }
 }

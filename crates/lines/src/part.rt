@@ -1,50 +1,24 @@
 // Parts of a line, from the left.
-ghost use Rattle.std.specs.Prelude.{◌≡◌, ◌≤◌, min, true, length};
+ghost use Rattle.std.specs.Prelude.{◌≡◌, ℕ, Bool, ◌≤◌, min, true, length};
 ghost use Rattle.std.specs.Option.{option_map};
 ghost use Rattle.std.specs.List.{prefix_len};
 ghost use Rattle.model.specs.Lines.{tag_char, tag_chars, is_tag as tag_form};
 ghost use Rattle.model.specs.Scan.{number_of, read_byte, is_level as level_digits};
-ghost use Rattle.lines.specs.Parsed.{passes, ReadsLevel, ReadsMarked, ReadsTag};
+ghost use Rattle.lines.specs.Parsed.{ReadsLevel, ReadsMarked, ReadsTag};
 
-// What a run of bytes is made of.
-#[derive(Clone, Copy)]
-pub enum Class {
-    Digit,
-    // A to Z, 0 to 9 and _
-    Tag,
-    // all but CR and LF
-    Inside,
-}
-
-pub fn is_tag_character(b: u8) -> bool
+fn is_tag_character(b: u8) -> bool
     ensures { result ≡ tag_char b }
 {
     b.is_ascii_uppercase() || b.is_ascii_digit() || b == b'_'
 }
 
-fn is_of(b: u8, class: Class) -> bool
-    ensures { result ≡ passes class b }
-{
-    match class {
-        Class::Digit => b.is_ascii_digit(),
-        Class::Tag => is_tag_character(b),
-        Class::Inside => b != b'\n' && b != b'\r',
-    }
-}
-
-// How many bytes of the class the part begins with.
-pub fn run(bytes: &[u8], class: Class) -> usize
-    ensures value { result ≡ prefix_len (passes class) bytes.now }
+// How many bytes that pass the part begins with.
+pub fn run<P: Fn(u8) -> bool>(bytes: &[u8], passes: P) -> usize
+    requires { P.IsAlwaysCallable passes }
+    ensures value { (p : ℕ → Bool) → ((b : ℕ) (r : Bool) → P.post passes b r → r ≡ p b) → result ≡ prefix_len p bytes.now }
     ensures bound { result ≤ length bytes.now }
 {
-    let mut n = 0;
-    while n < bytes.len() {
-        if !is_of(bytes[n], class) {
-            return n;
-        }
-        n += 1;
-    }
-    n
+    bytes.iter().take_while(|b| passes(**b)).count()
 }
 
 // The number that digits spell, up to 100, past which no level is told from another.
@@ -73,7 +47,7 @@ fn is_level(digits: &[u8]) -> bool
 pub fn read_level(bytes: &[u8]) -> Option<(u8, &[u8])>
     ensures { ReadsLevel bytes.now result }
 {
-    let (digits, rest) = bytes.split_at(run(bytes, Class::Digit));
+    let (digits, rest) = bytes.split_at(run(bytes, |b| b.is_ascii_digit()));
     if is_level(digits) {
         Some((capped(digits), rest))
     } else {
@@ -98,7 +72,7 @@ pub fn read_marked(bytes: &[u8]) -> Option<(&[u8], &[u8])>
     let [_, behind @ ..] = bytes else {
         return None;
     };
-    let n = run(behind, Class::Tag);
+    let n = run(behind, is_tag_character);
     if n > 0 && n < behind.len() && behind[n] == b'@' {
         Some(bytes.split_at(n + 2))
     } else {
@@ -121,6 +95,6 @@ fn is_tag(run: &[u8]) -> bool
 pub fn read_tag(bytes: &[u8]) -> Option<(&[u8], &[u8])>
     ensures { ReadsTag bytes.now result }
 {
-    let (tag, rest) = bytes.split_at(run(bytes, Class::Tag));
+    let (tag, rest) = bytes.split_at(run(bytes, is_tag_character));
     if is_tag(tag) { Some((tag, rest)) } else { None }
 }

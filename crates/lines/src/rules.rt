@@ -6,7 +6,7 @@ ghost use Rattle.lines.specs.Counts.{Checks};
 use crate::cursor::Cursor;
 use crate::fault::LineFault;
 use crate::notes::{Scan, look};
-use crate::steps::Step;
+use crate::steps::NoLine;
 use model::Place;
 
 // How many lines a file has, how many of them want a card since they continue none, and its deepest level.
@@ -27,12 +27,12 @@ fn scan(file: &[u8]) -> Result<Counts, LineFault>
     let mut scan = Scan::new();
     loop {
         match cursor.step() {
-            Step::End => break,
-            Step::Broken => return Err(LineFault::NoLine(Place {
+            Ok(Some(found)) => scan = scan.after(look(found.line), found.byte as u32),
+            Ok(None) => break,
+            Err(NoLine) => return Err(LineFault::NoLine(Place {
                 line: scan.lines + 1,
                 byte: cursor.at as u32,
             })),
-            Step::Line(found) => scan = scan.after(look(found.line), found.byte as u32),
         }
     }
     if scan.lines == 0 {

@@ -1,13 +1,16 @@
 // The lines of a file, one after the other.
-ghost use Rattle.std.specs.Prelude.{◌≡◌, ◌<◌, ◌≤◌, List, [], length, if◌then◌else◌};
+ghost use Rattle.std.specs.Prelude.{◌≡◌, ◌-◌, ◌<◌, ◌≤◌, List, [], length, if◌then◌else◌};
 ghost use Rattle.model.specs.LineTurns.{Scanned, is_marked, line_end, next_line};
+ghost use Rattle.model.specs.Scan.{in_line};
 ghost use Rattle.model.specs.Characters.{Clean};
 ghost use Rattle.model.specs.Files.{Placed};
 ghost use Rattle.lines.specs.Steps.{Steps, Gives, BytesCome};
+ghost use Rattle.lines.specs.Iterating.{GivesNext};
+ghost use Rattle.std.specs.Iterator.{at_most};
 
 use crate::cursor::Cursor;
 use crate::line::{Line, parse};
-use crate::part::{Class, run};
+use crate::part::run;
 use characters::without_mark;
 
 // A line, its number from 1, the byte where it begins, and its bytes without its end.
@@ -19,12 +22,15 @@ pub struct Found<'a> {
     pub line: Line<'a>,
 }
 
-// What a cursor comes to: the end of the file, bytes that are no line or have no end, or a line.
-#[derive(Clone, Copy)]
-pub enum Step<'a> {
-    End,
-    Broken,
-    Line(Found<'a>),
+// Bytes that are no line, or that have no end.
+#[derive(Clone, Copy, PartialEq, Eq, Debug)]
+pub struct NoLine;
+
+// Whether a byte stands inside of a line.
+fn is_inside(b: u8) -> bool
+    ensures { result ≡ in_line b }
+{
+    b != b'\n' && b != b'\r'
 }
 
 // Where the line that begins at `at` has its end.
@@ -33,7 +39,7 @@ fn line_end(file: &[u8], at: usize) -> usize
     ensures value { result ≡ line_end file.now at }
     ensures bounds { (at ≤ result) × (result ≤ length file.now) }
 {
-    at + run(&file[at..], Class::Inside)
+    at + run(&file[at..], is_inside)
 }
 
 // Where the line behind the end at `end` begins: CR LF is one end.
@@ -42,10 +48,9 @@ fn next_line(file: &[u8], end: usize) -> usize
     ensures value { result ≡ next_line file.now end }
     ensures bounds { (end < result) × (result ≤ length file.now) }
 {
-    if file[end] == b'\r' && end + 1 < file.len() && file[end + 1] == b'\n' {
-        end + 2
-    } else {
-        end + 1
+    match &file[end..] {
+        [b'\r', b'\n', ..] => end + 2,
+        _ => end + 1,
     }
 }
 
@@ -63,34 +68,48 @@ impl<'a> Cursor<'a> {
         }
     }
 
-    // The next line. A cursor that came to the end or to no line stays there.
-    pub fn step(&mut self) -> Step<'a>
+    // The next line, or none at the end of the file. A cursor that came to the end or to no line stays there.
+    pub fn step(&mut self) -> Result<Option<Found<'a>>, NoLine>
         ensures file { self.new.file.now ≡ self.old.file.now }
         ensures steps { Steps self.old.file.now self.old.at self.old.lines self.new.at self.new.lines result }
         ensures given { (ps : List Placed) → Scanned self.old.file.now ps self.old.at → length ps ≡ self.old.lines → Gives self.old.file.now ps self.new.at result }
         ensures bytes { BytesCome self.old.file.now self.old.at result }
     {
         if self.at >= self.file.len() {
-            return Step::End;
+            return Ok(None);
         }
         let end = line_end(self.file, self.at);
         if end == self.file.len() {
-            return Step::Broken;
+            return Err(NoLine);
         }
         let bytes = &self.file[self.at..end];
-        match parse(bytes) {
-            None => Step::Broken,
-            Some(line) => {
-                let found = Found {
-                    number: self.lines + 1,
-                    byte: self.at,
-                    bytes,
-                    line,
-                };
-                self.at = next_line(self.file, end);
-                self.lines += 1;
-                Step::Line(found)
-            }
+        let Some(line) = parse(bytes) else {
+            return Err(NoLine);
+        };
+        let found = Found {
+            number: self.lines + 1,
+            byte: self.at,
+            bytes,
+            line,
+        };
+        self.at = next_line(self.file, end);
+        self.lines += 1;
+        Ok(Some(found))
+    }
+}
+
+// The lines up to the end of the file, or up to bytes that are no line.
+impl<'a> Iterator for Cursor<'a> {
+    type Item = Found<'a>;
+
+    ghost next_gives = { GivesNext };
+
+    ghost remaining = { λ s. at_most (length s.file.now - s.at) };
+
+    fn next(&mut self) -> Option<Found<'a>> {
+        match self.step() {
+            Ok(found) => found,
+            Err(NoLine) => None,
         }
     }
 }

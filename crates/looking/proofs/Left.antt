@@ -21,6 +21,7 @@ use Rattle.model.proofs.Refusing.{Front, lined_front}
 use Rattle.lines.specs.declared.steps.Found.{Found}
 use Rattle.lines.specs.Shown.{Shows}
 use Rattle.lines.specs.Steps.{bytes_at, Comes, NoLineAt}
+use Rattle.lines.specs.Iterating.{StopsAt}
 
 -- these lines, each good and with its end, are what stands from a byte on
 pub record Left (file : List ℕ) (from : ℕ) (rest : List Placed) : Type 0 where
@@ -136,6 +137,15 @@ pub left_stuck : (file : List ℕ) (from : ℕ) (rest : List Placed) → Left fi
 left_stuck file from [] l (h, q) = omega (arith, left_none file from l)
 left_stuck file from (p ∷ rest) l (h, inl q) = never p.line (sym q ∙ left_parse file from p rest l)
 left_stuck file from (p ∷ rest) l (h, inr q) = omega (arith, left_ended file from p rest l)
+
+-- where the lines stop, none is left
+pub left_stops : (file : List ℕ) (from : ℕ) (rest : List Placed) → Left file from rest → StopsAt file from → rest ≡ []
+left_stops file from rest l (inl h) = left_end file from rest l h
+left_stops file from rest l (inr n) = absurd (left_stuck file from rest l n)
+
+pub left_more : (file : List ℕ) (from : ℕ) (p : Placed) (rest : List Placed) → Left file from (p ∷ rest) → StopsAt file from → ⊥
+left_more file from p rest l (inl h) = let past = left_ended file from p rest l in omega arith
+left_more file from p rest l (inr n) = left_stuck file from (p ∷ rest) l n
 
 -- The start, and any line
 

@@ -12,8 +12,9 @@ use Rattle.model.specs.LineTurns.{is_marked, spot, spot_of}
 use Rattle.model.proofs.Parts.{not_nil}
 use Rattle.model.proofs.Filing.{bytes_positive}
 use Rattle.lines.specs.declared.steps.Found.{Found}
-use Rattle.lines.specs.Steps.{Comes, NoLineAt}
-use Rattle.looking.proofs.Left.{Left, Cut, left_start, left_comes, left_end, left_stuck}
+use Rattle.lines.specs.Steps.{Comes}
+use Rattle.lines.specs.Iterating.{StopsAt}
+use Rattle.looking.proofs.Left.{Left, Cut, left_start, left_comes, left_stops}
 
 -- The line behind
 
@@ -95,14 +96,11 @@ seeking_found file ps i byte from lines f next lines' s h e c same =
     let number : f.number ≡ i + 1 = c.number ∙ (let z : lines + 1 ≡ i + 1 = omega arith in z) in
     λ k. spot (number k) ((same ∙ sym e) k)
 
-pub seeking_end : (file : List ℕ) (ps : List Placed) (i from lines : ℕ) → Seeking file ps i from lines → i < length ps → length file ≤ from → ⊥
+pub seeking_end : (file : List ℕ) (ps : List Placed) (i from lines : ℕ) → Seeking file ps i from lines → i < length ps → StopsAt file from → ⊥
 seeking_end file ps i from lines s h end =
-    let none = left_end file from s.rest s.left end in
+    let none = left_stops file from s.rest s.left end in
     let ahead = s.ahead in
     omega (arith, ap length s.are, length-append s.before s.rest, ap length none)
-
-pub seeking_stuck : (file : List ℕ) (ps : List Placed) (i from lines : ℕ) → Seeking file ps i from lines → NoLineAt file from → ⊥
-seeking_stuck file ps i from lines s none = left_stuck file from s.rest s.left none
 
 -- An entry that stands there
 

@@ -10,15 +10,14 @@ use Rattle.model.specs.Cards.{StandsAt}
 use Rattle.model.specs.Refusals.{lines_of, byte_at}
 use Rattle.model.proofs.Parts.{not_nil}
 use Rattle.lines.specs.declared.steps.Found.{Found}
-use Rattle.lines.specs.declared.steps.Step.{Step}
-use Rattle.lines.specs.declared.steps.Step.TheVariants as step
 use Rattle.lines.specs.declared.line.Payload as line
 use Rattle.lines.specs.declared.line.Payload.TheVariants as payload
 use Rattle.lines.specs.Shown.{value_of}
-use Rattle.lines.specs.Steps.{Comes, NoLineAt, Steps}
+use Rattle.lines.specs.Steps.{Comes}
+use Rattle.lines.specs.Iterating.{StopsAt}
 use Rattle.looking.specs.Looking.{text_in, BeginsOn}
 use Rattle.looking.proofs.Placing.{byte_there, line_there}
-use Rattle.looking.proofs.Left.{Left, Cut, left_ended, left_stuck, left_goes, left_comes, left_end}
+use Rattle.looking.proofs.Left.{Left, Cut, left_goes, left_comes, left_stops}
 
 -- the lines from a byte on begin with what is left of the text
 pub record Trailing (file : List ℕ) (from k number : ℕ) (e : Entry) : Type 0 where
@@ -29,11 +28,6 @@ pub record Trailing (file : List ℕ) (from k number : ℕ) (e : Entry) : Type 0
   pub reads : lines_of own ≡ continuations (e.level + 1) texts
   pub whole : (p : Placed) (more : List Placed) → rest ≡ p ∷ more → p.line.tag ≡ CONT → ⊥
   pub told : slice_get (further e.payload) number ≡ slice_get texts (number - k)
-
-pub left_steps : (file : List ℕ) (from n next n' : ℕ) (r : Step) (p : Placed) (rest : List Placed) → Left file from (p ∷ rest) → Steps file from n next n' r → Left file next rest
-left_steps file from n next n' step.End p rest l (h, s) = absurd (omega (arith, left_ended file from p rest l))
-left_steps file from n next n' step.Broken p rest l (h, s) = absurd (left_stuck file from (p ∷ rest) l h)
-left_steps file from n next n' (step.Line f) p rest l c = left_goes file from n next n' f p rest l c
 
 -- the own line of an entry, with its continuations behind it
 pub record Whole (ps : List Placed) (b : ℕ) (e : Entry) : Type 0 where
@@ -106,12 +100,12 @@ whole_goes ps b e w = go (further e.payload) refl
       followed = λ u us x. refl;
     }
 
-pub trailing_start : (file : List ℕ) (from n next n' number : ℕ) (r : Step) (ps : List Placed) (b : ℕ) (e : Entry) (w : Whole ps b e) → Left file from (w.cut.line ∷ w.cut.more) → Steps file from n next n' r → Trailing file next 0 number e
-trailing_start file from n next n' number r ps b e w l s = record {
+pub trailing_start : (file : List ℕ) (from n next n' number : ℕ) (f : Found) (ps : List Placed) (b : ℕ) (e : Entry) (w : Whole ps b e) → Left file from (w.cut.line ∷ w.cut.more) → Comes file from n next n' f → Trailing file next 0 number e
+trailing_start file from n next n' number f ps b e w l s = record {
   own = w.own;
   rest = w.rest;
   texts = further e.payload;
-  left = subst (Left file next) w.are (left_steps file from n next n' r w.cut.line w.cut.more l s);
+  left = subst (Left file next) w.are (left_goes file from n next n' f w.cut.line w.cut.more l s);
   reads = w.reads;
   whole = w.whole;
   told = ap (slice_get (further e.payload)) (let z : number ≡ number - 0 = omega arith in z);
@@ -129,13 +123,10 @@ none_own : (own rest : List Placed) → own ++ rest ≡ [] → own ≡ []
 none_own [] rest e = refl
 none_own (p ∷ own) rest e = absurd (not_nil p (own ++ rest) (sym e))
 
-pub trailing_end : (file : List ℕ) (from k number : ℕ) (e : Entry) → Trailing file from k number e → length file ≤ from → None ≡ slice_get (further e.payload) number
+pub trailing_end : (file : List ℕ) (from k number : ℕ) (e : Entry) → Trailing file from k number e → StopsAt file from → None ≡ slice_get (further e.payload) number
 trailing_end file from k number e t h =
-    let none = none_own t.own t.rest (left_end file from (t.own ++ t.rest) t.left h) in
+    let none = none_own t.own t.rest (left_stops file from (t.own ++ t.rest) t.left h) in
     done number k e t.texts t.told (no_texts (e.level + 1) t.texts (ap lines_of (sym none) ∙ t.reads))
-
-pub trailing_stuck : (file : List ℕ) (from k number : ℕ) (e : Entry) → Trailing file from k number e → NoLineAt file from → ⊥
-trailing_stuck file from k number e t h = left_stuck file from (t.own ++ t.rest) t.left h
 
 -- One line more
 

@@ -3,16 +3,14 @@ ghost use Rattle.std.specs.Prelude.{◌≡◌};
 ghost use Rattle.looking.specs.Looking.{FurtherAt, text_in};
 
 use crate::shown::is_continuation;
-use lines::{Cursor, Payload, Step};
+use lines::{Cursor, Payload};
 
 fn text_in(payload: Payload<'_>) -> &[u8]
     ensures { result.now ≡ text_in payload.entry }
 {
     match payload {
         Payload::Text(text) => text,
-        Payload::None => b"",
-        Payload::Void => b"",
-        Payload::Pointer(_) => b"",
+        Payload::None | Payload::Void | Payload::Pointer(_) => b"",
     }
 }
 
@@ -24,21 +22,14 @@ pub fn further_at(file: &[u8], byte: usize, number: usize) -> Option<&[u8]>
         return None;
     }
     let mut cursor = Cursor::new(&file[byte..]);
-    let own = cursor.step();
-    let mut passed = 0;
-    loop {
-        match cursor.step() {
-            Step::End => return None,
-            Step::Broken => return None,
-            Step::Line(found) => {
-                if !is_continuation(found.line) {
-                    return None;
-                }
-                if passed == number {
-                    return Some(text_in(found.line.payload));
-                }
-                passed += 1;
-            }
+    let _own = cursor.next()?;
+    for (passed, found) in cursor.enumerate() {
+        if !is_continuation(found.line) {
+            return None;
+        }
+        if passed == number {
+            return Some(text_in(found.line.payload));
         }
     }
+    None
 }

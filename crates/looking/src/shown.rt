@@ -6,20 +6,14 @@ ghost use Rattle.looking.specs.Looking.{LineAt, ContinuedAt, PlaceAt, LevelOf, T
 
 use characters::LIMIT;
 use kinds::Content;
-use lines::{CONT, Cursor, Line, Payload, Step};
+use lines::{CONT, Cursor, Line, Payload};
 use model::{Card, Place, State};
-
-fn is_cont(tag: &[u8]) -> bool
-    ensures { Decides result (tag.now ≡ continuation) }
-{
-    tag == CONT
-}
 
 // Whether a line continues the text of the one before it.
 pub fn is_continuation(line: Line<'_>) -> bool
     ensures { Decides result (line.entry.tag.now ≡ continuation) }
 {
-    is_cont(line.tag)
+    line.tag == CONT
 }
 
 // The line that begins at a byte. Where none begins there, the answer says nothing.
@@ -29,22 +23,17 @@ pub fn line_at(file: &[u8], byte: usize) -> Option<Line<'_>>
     if byte >= file.len() {
         return None;
     }
-    let mut cursor = Cursor::new(&file[byte..]);
-    match cursor.step() {
-        Step::Line(found) => Some(found.line),
-        Step::End => None,
-        Step::Broken => None,
-    }
+    let found = Cursor::new(&file[byte..]).next()?;
+    Some(found.line)
 }
 
 // Whether the line that a cursor comes to next continues the one before it.
 fn next_continues(cursor: &mut Cursor<'_>) -> bool
     ensures { ContinuesNext cursor.old.file.now cursor.old.at result }
 {
-    match cursor.step() {
-        Step::Line(next) => is_continuation(next.line),
-        Step::End => false,
-        Step::Broken => false,
+    match cursor.next() {
+        Some(next) => is_continuation(next.line),
+        None => false,
     }
 }
 
@@ -56,10 +45,9 @@ pub fn is_continued(file: &[u8], byte: usize) -> bool
         return false;
     }
     let mut cursor = Cursor::new(&file[byte..]);
-    match cursor.step() {
-        Step::Line(_) => next_continues(&mut cursor),
-        Step::End => false,
-        Step::Broken => false,
+    match cursor.next() {
+        Some(_) => next_continues(&mut cursor),
+        None => false,
     }
 }
 
@@ -67,19 +55,15 @@ fn place_in(file: &[u8], byte: usize) -> Place
     requires { Short file.now }
     ensures { PlaceAt file.now byte result }
 {
-    let mut cursor = Cursor::new(file);
-    loop {
-        match cursor.step() {
-            Step::Line(found) => if found.byte == byte {
-                return Place {
-                    line: found.number as u32,
-                    byte: found.byte as u32,
-                };
-            },
-            Step::End => return Place { line: 0, byte: 0 },
-            Step::Broken => return Place { line: 0, byte: 0 },
+    for found in Cursor::new(file) {
+        if found.byte == byte {
+            return Place {
+                line: found.number as u32,
+                byte: found.byte as u32,
+            };
         }
     }
+    Place::NOWHERE
 }
 
 // The number and the byte of the line that begins at a byte.
@@ -87,7 +71,7 @@ pub fn place_at(file: &[u8], byte: usize) -> Place
     ensures { PlaceAt file.now byte result }
 {
     if file.len() > LIMIT {
-        return Place { line: 0, byte: 0 };
+        return Place::NOWHERE;
     }
     place_in(file, byte)
 }
@@ -114,10 +98,7 @@ pub fn tag_of(file: &[u8], card: Card) -> &[u8]
 pub fn identifier_of(file: &[u8], card: Card) -> Option<&[u8]>
     ensures { IdentifierOf file.now card result }
 {
-    match line_at(file, card.byte as usize) {
-        Some(line) => line.identifier,
-        None => None,
-    }
+    line_at(file, card.byte as usize)?.identifier
 }
 
 // The payload of a line, with a cursor behind it. The next line is read only where it may continue a text.
@@ -147,10 +128,9 @@ fn filed_content(file: &[u8], byte: usize) -> Content<'_>
         return Content::Nothing;
     }
     let mut cursor = Cursor::new(&file[byte..]);
-    match cursor.step() {
-        Step::Line(own) => content_behind(own.line.payload, &mut cursor),
-        Step::End => Content::Nothing,
-        Step::Broken => Content::Nothing,
+    match cursor.next() {
+        Some(own) => content_behind(own.line.payload, &mut cursor),
+        None => Content::Nothing,
     }
 }
 
@@ -161,7 +141,6 @@ pub fn content_of(file: &[u8], card: Card) -> Content<'_>
     match card.state {
         State::Voided => Content::Void,
         State::Emptied => Content::Nothing,
-        State::Filed => filed_content(file, card.byte as usize),
-        State::Blank => filed_content(file, card.byte as usize),
+        State::Filed | State::Blank => filed_content(file, card.byte as usize),
     }
 }

@@ -80,7 +80,12 @@ pub struct Place {
     pub byte: u32,
 }
 
-// What a refusal tells: its number, a place in the file, both parts 0 where it has none, and the type that is missing.
+impl Place {
+    // No place in a file.
+    pub const NOWHERE: Place = Place { line: 0, byte: 0 };
+}
+
+// What a refusal tells: its number, a place in the file, `NOWHERE` where it has none, and the type that is missing.
 #[derive(Clone, Copy, PartialEq, Eq, Debug)]
 pub struct Fault {
     pub number: u8,

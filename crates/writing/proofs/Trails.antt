@@ -7,8 +7,9 @@ use Rattle.model.specs.Files.{Placed}
 use Rattle.model.specs.Refusals.{lines_of}
 use Rattle.model.proofs.Parts.{not_nil}
 use Rattle.lines.specs.declared.steps.Found.{Found}
-use Rattle.lines.specs.Steps.{bytes_at, Comes, NoLineAt}
-use Rattle.looking.proofs.Left.{Left, left_end, left_ended, left_stuck, left_comes, left_goes, left_shows, left_bytes}
+use Rattle.lines.specs.Steps.{bytes_at, Comes}
+use Rattle.lines.specs.Iterating.{StopsAt}
+use Rattle.looking.proofs.Left.{Left, left_more, left_stops, left_comes, left_goes, left_shows, left_bytes}
 use Rattle.looking.proofs.Trailing.{Whole}
 use Rattle.lines.specs.Shown.{Shows}
 use Rattle.model.specs.Scan.{front, in_line}
@@ -32,11 +33,8 @@ own_comes file from n next n' f e b c bytes =
       behind = record { own = b.own; rest = b.rest; left = left_goes file from n next n' f b.first rest b.left c; reads = b.reads; whole = b.whole };
     }
 
-pub before_end : (file : List ℕ) (from : ℕ) (e : Entry) → Before file from e → length file ≤ from → ⊥
-before_end file from e b h = omega (arith, left_ended file from b.first (b.own ++ b.rest) b.left)
-
-pub before_stuck : (file : List ℕ) (from : ℕ) (e : Entry) → Before file from e → NoLineAt file from → ⊥
-before_stuck file from e b h = left_stuck file from (b.first ∷ b.own ++ b.rest) b.left h
+pub before_end : (file : List ℕ) (from : ℕ) (e : Entry) → Before file from e → StopsAt file from → ⊥
+before_end file from e b h = left_more file from b.first (b.own ++ b.rest) b.left h
 
 -- how far a line takes a cursor
 pub comes_past : (file : List ℕ) (from n next n' : ℕ) (f : Found) → Comes file from n next n' f → f.bytes.now ≡ bytes_at file from → from + length f.bytes.now + 1 ≤ next
@@ -56,13 +54,10 @@ none_own : (own rest : List Placed) → own ++ rest ≡ [] → own ≡ []
 none_own [] rest e = refl
 none_own (p ∷ own) rest e = absurd (not_nil p (own ++ rest) (sym e))
 
-pub trails_end : (file : List ℕ) (from level : ℕ) (texts : List (List ℕ)) → Trails file from level texts → length file ≤ from → texts ≡ []
+pub trails_end : (file : List ℕ) (from level : ℕ) (texts : List (List ℕ)) → Trails file from level texts → StopsAt file from → texts ≡ []
 trails_end file from level texts t h =
-    let none = none_own t.own t.rest (left_end file from (t.own ++ t.rest) t.left h) in
+    let none = none_own t.own t.rest (left_stops file from (t.own ++ t.rest) t.left h) in
     no_texts level texts (ap lines_of (sym none) ∙ t.reads)
-
-pub trails_stuck : (file : List ℕ) (from level : ℕ) (texts : List (List ℕ)) → Trails file from level texts → NoLineAt file from → ⊥
-trails_stuck file from level texts t h = left_stuck file from (t.own ++ t.rest) t.left h
 
 module _ (file : List ℕ) (from n next n' level : ℕ) (f : Found) (c : Comes file from n next n' f) (bytes : f.bytes.now ≡ bytes_at file from) where
   pub trails_next : (texts : List (List ℕ)) → Trails file from level texts → f.line.tag.now ≡ CONT → NextOf file next level texts f.bytes.now

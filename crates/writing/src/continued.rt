@@ -2,7 +2,7 @@
 ghost use Rattle.std.specs.Prelude.{◌≡◌, ◌≤◌, length};
 ghost use Rattle.writing.specs.Own.{BeforeAt, OwnNext, Passed, GoesOn, Advances};
 
-use lines::{Cursor, Found, Step};
+use lines::{Cursor, Found};
 use looking::is_continuation;
 
 // A cursor before the line that begins at a byte.
@@ -19,11 +19,7 @@ pub fn own_line<'a>(cursor: &mut Cursor<'a>) -> Option<Found<'a>>
     ensures passed { Passed cursor.new.at result }
     ensures file { cursor.new.file.now ≡ cursor.old.file.now }
 {
-    match cursor.step() {
-        Step::Line(found) => Some(found),
-        Step::End => None,
-        Step::Broken => None,
-    }
+    cursor.next()
 }
 
 // The bytes of the next line, if it continues the text.
@@ -32,13 +28,10 @@ pub fn next_continuation<'a>(cursor: &mut Cursor<'a>) -> Option<&'a [u8]>
     ensures goes { GoesOn cursor.old.file.now cursor.old.at cursor.new.at result }
     ensures advances { Advances cursor.old.at cursor.new.at result }
 {
-    match cursor.step() {
-        Step::Line(found) => if is_continuation(found.line) {
-            Some(found.bytes)
-        } else {
-            None
-        },
-        Step::End => None,
-        Step::Broken => None,
+    let found = cursor.next()?;
+    if is_continuation(found.line) {
+        Some(found.bytes)
+    } else {
+        None
     }
 }

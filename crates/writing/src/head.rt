@@ -1,16 +1,10 @@
 // A line without its payload.
-ghost use Rattle.std.specs.Prelude.{◌≡◌, ◌-◌, ◌≤◌, length, Decides, slice_index};
+ghost use Rattle.std.specs.Prelude.{◌≡◌, ◌-◌, ◌≤◌, length};
 ghost use Rattle.model.specs.Lines.{spell_value};
 ghost use Rattle.lines.specs.Shown.{value_of};
 ghost use Rattle.writing.specs.Own.{HeadOf};
 
 use lines::{Found, Payload, VOID};
-
-fn begins_with_at(text: &[u8]) -> bool
-    ensures { Decides result (slice_index text.now 0 ≡ 64) }
-{
-    !text.is_empty() && text[0] == b'@'
-}
 
 // How long a line of a length is without its payload and the space before it. A text that begins with @ has two of them.
 fn without_payload(long: usize, payload: Payload<'_>) -> usize
@@ -21,7 +15,7 @@ fn without_payload(long: usize, payload: Payload<'_>) -> usize
         Payload::Void => long.saturating_sub(VOID.len() + 1),
         Payload::Pointer(pointer) => long.saturating_sub(pointer.len()).saturating_sub(1),
         Payload::Text(text) => {
-            let marks = if begins_with_at(text) { 2 } else { 1 };
+            let marks = if text.starts_with(b"@") { 2 } else { 1 };
             long.saturating_sub(text.len()).saturating_sub(marks)
         }
     }

@@ -1,3 +1,5 @@
+use Rattle.std.proofs.lemmas.Slice.Eq.{slice_eq-Decides}
+use Rattle.std.proofs.lemmas.Bool.Decides.{Decides-eqb}
 use Rattle.std.proofs.Common.{◌≡◌, Some, sym, ap, ◌∙◌, subst, arith, lit<}
 use Rattle.std.proofs.lemmas.Bool.{both_ways}
 use Rattle.model.specs.Lines.{VOID}
@@ -12,19 +14,19 @@ returns-in_err-identifier-in-64 c =
     let (cs, is) = first_is 64 bs (lit< tt) (omega arith) in
     subst (ReadsIdentifier bs) (sym c.from_residual.ensures) (ap read_identifier is ∙ identifier_none cs (c.in_err-identifier-in-64.ensures cs is))
 
-pub returns-then-is_void : goal.returns-then-is_void
-returns-then-is_void c =
+pub returns-then-eq : goal.returns-then-eq
+returns-then-eq c =
     let bs = c.args.bytes.now in
     let (cs, is) = first_is 64 bs (lit< tt) (omega arith) in
     let (name, found, whole) = c.in_ok-identifier-in-64.ensures cs is in
-    ap read_identifier is ∙ identifier_void cs name c.in_ok-identifier-in-64.rest.now found (sym whole ∙ c.is_void.ensures.0 c.if-is_void.true)
+    ap read_identifier is ∙ identifier_void cs name c.in_ok-identifier-in-64.rest.now found (sym whole ∙ (slice_eq-Decides Decides-eqb _ _ c.eq.result c.eq.ensures).0 c.if-eq.true)
 
 pub returns-in_err-read_space-in-64 : goal.returns-in_err-read_space-in-64
 returns-in_err-read_space-in-64 c =
     let bs = c.args.bytes.now in
     let (cs, is) = first_is 64 bs (lit< tt) (omega arith) in
     let (name, found, whole) = c.in_ok-identifier-in-64.ensures cs is in
-    let named : marked name ≡ VOID → ⊥ = λ v. both_ways c.is_void.result c.if-is_void.false (c.is_void.ensures.1 (whole ∙ v)) in
+    let named : marked name ≡ VOID → ⊥ = λ v. both_ways c.eq.result c.if-eq.false ((slice_eq-Decides Decides-eqb _ _ c.eq.result c.eq.ensures).1 (whole ∙ v)) in
     subst (ReadsIdentifier bs) (sym c.from_residual-in_err-read_space-in-64.ensures) (ap read_identifier is ∙ identifier_joined cs name c.in_ok-identifier-in-64.rest.now found named (sym c.in_err-read_space-in-64.ensures))
 
 pub returns-in_ok-read_space-in-64 : goal.returns-in_ok-read_space-in-64
@@ -32,6 +34,6 @@ returns-in_ok-read_space-in-64 c =
     let bs = c.args.bytes.now in
     let (cs, is) = first_is 64 bs (lit< tt) (omega arith) in
     let (name, found, whole) = c.in_ok-identifier-in-64.ensures cs is in
-    let named : marked name ≡ VOID → ⊥ = λ v. both_ways c.is_void.result c.if-is_void.false (c.is_void.ensures.1 (whole ∙ v)) in
+    let named : marked name ≡ VOID → ⊥ = λ v. both_ways c.eq.result c.if-eq.false ((slice_eq-Decides Decides-eqb _ _ c.eq.result c.eq.ensures).1 (whole ∙ v)) in
     let more = c.in_ok-read_space-in-64.field-0.now in
     ap read_identifier is ∙ identifier_found cs name c.in_ok-identifier-in-64.rest.now found more named (sym c.in_ok-read_space-in-64.ensures) ∙ (λ i. Some (Some (sym whole i), more))

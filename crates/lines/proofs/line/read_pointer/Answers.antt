@@ -1,3 +1,5 @@
+use Rattle.std.proofs.lemmas.Slice.Eq.{slice_eq-Decides}
+use Rattle.std.proofs.lemmas.Bool.Decides.{Decides-eqb}
 use Rattle.std.proofs.Common.{◌≡◌, Some, sym, ◌∙◌, subst, arith}
 use Rattle.std.proofs.lemmas.Bool.{both_ways}
 use Rattle.std.proofs.lemmas.Bool.Decides.{nat_tests}
@@ -16,15 +18,15 @@ returns-then-not-is_empty c cs is other =
     let e = c.if-not-is_empty.ensures in
     pointer_followed cs other name c.in_ok-pointer.rest.now found (λ z. grind (arith, nat_tests))
 
-pub returns-then-is_void : goal.returns-then-is_void
-returns-then-is_void c cs is other =
+pub returns-then-eq : goal.returns-then-eq
+returns-then-eq c cs is other =
     let (name, found, whole) = c.in_ok-pointer.ensures cs is in
     let e = c.if-not-is_empty.ensures in
-    pointer_void cs other name c.in_ok-pointer.rest.now found (grind (arith, nat_tests)) (sym whole ∙ c.is_void.ensures.0 c.if-is_void.true)
+    pointer_void cs other name c.in_ok-pointer.rest.now found (grind (arith, nat_tests)) (sym whole ∙ (slice_eq-Decides Decides-eqb _ _ c.eq.result c.eq.ensures).0 c.if-eq.true)
 
-pub returns-else-is_void : goal.returns-else-is_void
-returns-else-is_void c cs is other =
+pub returns-else-eq : goal.returns-else-eq
+returns-else-eq c cs is other =
     let (name, found, whole) = c.in_ok-pointer.ensures cs is in
     let e = c.if-not-is_empty.ensures in
-    let named : marked name ≡ VOID → ⊥ = λ v. both_ways c.is_void.result c.if-is_void.false (c.is_void.ensures.1 (whole ∙ v)) in
+    let named : marked name ≡ VOID → ⊥ = λ v. both_ways c.eq.result c.if-eq.false ((slice_eq-Decides Decides-eqb _ _ c.eq.result c.eq.ensures).1 (whole ∙ v)) in
     pointer_found cs other name c.in_ok-pointer.rest.now found (grind (arith, nat_tests)) named ∙ (λ i. Some (pointer (sym whole i)))

@@ -14,7 +14,7 @@ pub returns-then-behind-n-eq64 : goal.returns-then-behind-n-eq64
 returns-then-behind-n-eq64 c cs e =
     let n = c.run-n.result in
     let b = behind c.args.bytes.now cs e in
-    let is : n ≡ prefix_len tag_char cs = c.run-n.ensures.value ∙ ap (prefix_len tag_char) b in
+    let is : n ≡ prefix_len tag_char cs = (c.run-n.ensures.value tag_char (λ b r e. e)) ∙ ap (prefix_len tag_char) b in
     let h : n < length cs = subst (λ xs. n < length xs) b c.if-n-behind.true in
     let at : get_or cs n 0 ≡ 64 = ap (λ xs. get_or xs n 0) (sym b) ∙ c.if-behind-n-eq64.true in
     let rest : drop (n + 1) cs ≡ c.split_at.result.1.now = sym (marked_rest cs n) ∙ ap (drop (n + 2)) (sym e) ∙ sym c.split_at.ensures.back in
@@ -24,7 +24,7 @@ pub returns-else-n-gt0 : goal.returns-else-n-gt0
 returns-else-n-gt0 c cs e =
     let n = c.run-n.result in
     let b = behind c.args.bytes.now cs e in
-    let is : n ≡ prefix_len tag_char cs = c.run-n.ensures.value ∙ ap (prefix_len tag_char) b in
+    let is : n ≡ prefix_len tag_char cs = (c.run-n.ensures.value tag_char (λ b r e. e)) ∙ ap (prefix_len tag_char) b in
     let lacks : Lacks cs n = elim c.else-n-gt0.branch [
       | else-n-gt0-via-then-n-gt0+then-n-behind+else-behind-n-eq64 w ↦ inr (inr (λ at. w.if-behind-n-eq64.false (ap (λ xs. get_or xs n 0) b ∙ at)))
       | else-n-gt0-via-then-n-gt0+else-n-behind w ↦ inr (inl (subst (λ xs. length xs ≤ n) b w.if-n-behind.false))

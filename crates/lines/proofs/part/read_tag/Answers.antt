@@ -24,13 +24,13 @@ returns-then-is_tag c =
     let bs = c.args.bytes.now in
     let n = c.run.result in
     let front = c.split_at.ensures.front in
-    let all = subst (λ t. tag_chars t ≡ true) (sym front) (characters bs n c.run.ensures.value) in
-    taken bs c.split_at.result.0.now c.split_at.result.1.now n c.run.ensures.value front c.split_at.ensures.back (subst (λ t. is_tag t ≡ true) front (sym (c.is_tag.ensures all) ∙ c.if-is_tag.true))
+    let all = subst (λ t. tag_chars t ≡ true) (sym front) (characters bs n (c.run.ensures.value tag_char (λ b r e. e))) in
+    taken bs c.split_at.result.0.now c.split_at.result.1.now n (c.run.ensures.value tag_char (λ b r e. e)) front c.split_at.ensures.back (subst (λ t. is_tag t ≡ true) front (sym (c.is_tag.ensures all) ∙ c.if-is_tag.true))
 
 pub returns-else-is_tag : goal.returns-else-is_tag
 returns-else-is_tag c =
     let bs = c.args.bytes.now in
     let n = c.run.result in
     let front = c.split_at.ensures.front in
-    let all = subst (λ t. tag_chars t ≡ true) (sym front) (characters bs n c.run.ensures.value) in
-    left bs n c.run.ensures.value (subst (λ t. is_tag t ≡ false) front (sym (c.is_tag.ensures all) ∙ c.if-is_tag.false))
+    let all = subst (λ t. tag_chars t ≡ true) (sym front) (characters bs n (c.run.ensures.value tag_char (λ b r e. e))) in
+    left bs n (c.run.ensures.value tag_char (λ b r e. e)) (subst (λ t. is_tag t ≡ false) front (sym (c.is_tag.ensures all) ∙ c.if-is_tag.false))

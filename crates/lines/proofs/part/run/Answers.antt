@@ -1,19 +1,11 @@
-use Rattle.std.proofs.Common.{sym, arith}
-use Rattle.std.proofs.lemmas.List.Sums.{prefix_len-drop_yes, prefix_len-drop_no, prefix_len-drop_all}
-use Rattle.lines.specs.Parsed.{passes}
+use Rattle.std.proofs.Common.{◌∙◌, rules, ◌≡◌, length, take, arith, length-take, tests}
+use Rattle.std.specs.List.{prefix_len}
+use Rattle.std.proofs.lemmas.Iterator.{YieldsList-from_slice}
+use Rattle.std.proofs.lemmas.Iterator.Consumers.{count_from_yields_List}
+use Rattle.std.proofs.lemmas.Iterator.Search.{YieldsList-from_take_while}
+use Rattle.std.proofs.lemmas.List.Sums.{prefix_len-le-length}
 use Rattle.lines.proofs.part.run.Goals as goal
 
-pub returns-then-not-is_of : goal.returns-then-not-is_of
-returns-then-not-is_of c =
-    let none = prefix_len-drop_no (passes c.args.class) c.args.bytes.now c.loop-n.n 0 c.loop-n-test.true (sym c.if-not-is_of.ensures) in
-    record { value = omega arith; bound = c.loop-n.invariant.0 }
-
-pub loop-n-preserved : goal.loop-n-preserved
-loop-n-preserved c =
-    let one = prefix_len-drop_yes (passes c.args.class) c.args.bytes.now c.loop-n.n 0 c.loop-n-test.true (sym c.if-not-is_of.ensures) in
-    (omega arith, omega arith)
-
-pub returns : goal.returns
-returns c =
-    let none = prefix_len-drop_all (passes c.args.class) c.args.bytes.now c.loop-n.n c.loop-n-test.false in
-    record { value = omega arith; bound = c.loop-n.invariant.0 }
+pub returns-clause-value : goal.returns-clause-value
+returns-clause-value g c p e =
+    let n : c.count.result ≡ length (take (prefix_len p c.args.bytes.now) c.args.bytes.now) = count_from_yields_List c.take_while.result c.count.result c.count.ensures.ran (YieldsList-from_take_while _ p (YieldsList-from_slice c.args.bytes.now cc) c.take_while.ensures.closure c.take_while.ensures.done (λ x r q k. search (rules, tests, e))) in n ∙ (simp length-take (omega (arith, prefix_len-le-length p c.args.bytes.now)))

@@ -10,11 +10,11 @@ use Rattle.lines.proofs.cursor.Cursor.step.Goals as goal
 cut : (file : List ℕ) (at end : ℕ) → end ≡ line_end file at → bytes_at file at ≡ take (end - at) (drop at file)
 cut file at end e = line_bytes file at ∙ ap (λ n. take (n - at) (drop at file)) (sym e)
 
-pub returns-in-None : goal.returns-in-None
-returns-in-None c =
+pub returns-in_default : goal.returns-in_default
+returns-in_default c =
     let file = c.args.self.now.file.now in
     let at = c.args.self.now.at in
-    let none : NoLineAt file at = (omega arith, inl (ap parse (cut file at c.line_end-end.result c.line_end-end.ensures.value) ∙ c.in-None.ensures.parsed)) in
+    let none : NoLineAt file at = (omega arith, inl (ap parse (cut file at c.line_end-end.result c.line_end-end.ensures.value) ∙ c.in_default.ensures.parsed)) in
     record { file = refl; steps = (none, (refl, refl)); given = λ ps s n. broken_given file at ps none s; bytes = tt }
 
 pub returns-then-self : goal.returns-then-self
@@ -31,8 +31,8 @@ returns-then-end-self c =
 ended : (file : List ℕ) (at end : ℕ) → end ≡ line_end file at → end ≤ length file → (end ≡ length file → ⊥) → line_end file at < length file
 ended file at end e low other = elim (cases_lt (line_end file at) (length file)) [ inl h ↦ h | inr h ↦ absurd (other (omega arith)) ]
 
-pub returns-in-Some : goal.returns-in-Some
-returns-in-Some c =
+pub returns : goal.returns
+returns c =
     let file = c.args.self.now.file.now in
     let at = c.args.self.now.at in
     let end = c.line_end-end.ensures in
