@@ -1,6 +1,7 @@
 -- Cards beside the lines of a file, one line after the other. Assumes nothing.
-use Rattle.std.proofs.Common.{◌≡◌, ℕ, zero, suc, ◌+◌, ◌-◌, ◌<◌, ◌≤◌, Bool, cond, ◌⊎◌, List, [], ◌∷◌, ◌++◌, map, length, get_or, Decides, sym, refl, ap, ◌∙◌, subst, inl, inr, append_assoc, append-nil, arith, length-append}
+use Rattle.std.proofs.Common.{◌≡◌, ℕ, zero, suc, ◌+◌, ◌-◌, ◌<◌, ◌≤◌, Bool, cond, ◌⊎◌, List, [], ◌∷◌, ◌++◌, map, length, drop, get_or, Decides, sym, refl, ap, ◌∙◌, subst, inl, inr, append_assoc, append-nil, arith, length-append}
 use mathlib.Core.List.{map-append}
+use mathlib.Core.List.{head-eq_of_cons-eq, tail-eq_of_cons-eq}
 use lib.ListN.{length-map}
 use Rattle.std.proofs.lemmas.List.{get_or-append-add, get_or_append_left, length_push}
 use Rattle.std.proofs.lemmas.Bool.{cases_lt, cases_eq}
@@ -13,10 +14,17 @@ use Rattle.model.specs.LineTurns.{is_marked}
 use Rattle.model.proofs.Filing.{bytes_positive}
 use Rattle.lines.specs.declared.steps.Found.{Found}
 use Rattle.lines.specs.Steps.{Comes}
-use Rattle.looking.proofs.Left.{Left, Came, left_start, left_comes, left_end}
+use Rattle.looking.proofs.Left.{Left, Came, left_start, left_comes, left_stops}
 use Rattle.looking.proofs.Placing.{byte_there, line_there}
 use Rattle.holding.specs.Standing.{card, OnLine, OnLines}
-use Rattle.holding.specs.Matching.{Matches}
+use Rattle.lines.specs.Iterating.{StopsAt}
+use Rattle.holding.specs.Matching.{IsCardOf}
+
+-- the card at k is that of a line which continues none
+pub record Matches (cards : List Card) (k : ℕ) (f : Found) : Type 0 where
+  pub within : k < length cards
+  pub byte : (card cards k).byte ≡ f.byte
+  pub own : f.line.tag.now ≡ CONT → ⊥
 
 -- Bytes and places
 
@@ -165,12 +173,12 @@ module _ (file : List ℕ) (ps : List Placed) (cards : List Card) (from k n next
 
 -- The end
 
-pub merging_end : (file : List ℕ) (ps : List Placed) (cards : List Card) (from k : ℕ) (b : Bool) → Merging file ps cards from k → length file ≤ from → k ≤ length cards → Decides b (k ≡ length cards) → Decides b (OnLines ps cards)
+pub merging_end : (file : List ℕ) (ps : List Placed) (cards : List Card) (from k : ℕ) (b : Bool) → Merging file ps cards from k → StopsAt file from → k ≤ length cards → Decides b (k ≡ length cards) → Decides b (OnLines ps cards)
 merging_end file ps cards from k b m end few d = (
   (λ t. let same = d.0 t in record { lines = λ j h. (m.lines j (omega arith)).0; rising = λ j h. m.rising j (omega arith) }),
   (λ ons. d.1 (elim (cases_lt k (length cards)) [
     | inl q ↦ absurd (
-        let none = left_end file from m.rest m.left end in
+        let none = left_stops file from m.rest m.left end in
         let all : ps ≡ m.before = m.are ∙ ap (λ qs. m.before ++ qs) none ∙ append-nil m.before in
         let low = m.ahead ons q in
         let (i, h, e, tag) = ons.lines k q in
@@ -179,3 +187,40 @@ merging_end file ps cards from k b m end few d = (
     | inr q ↦ omega arith
   ])),
 )
+
+-- The cards that are left
+
+-- which are those from k on
+abbrev pub Behind : List Card → List Card → Type 0
+Behind cards rest = (length rest ≤ length cards) × (rest ≡ drop (length cards - length rest) cards)
+
+pub behind_all : (cards : List Card) → Behind cards cards
+behind_all cards = (omega arith, sym (ap (λ k. drop k cards) (let z : length cards - length cards ≡ 0 = omega arith in z)))
+
+dropped : (cards : List Card) (k : ℕ) (c : Card) (more : List Card) → c ∷ more ≡ drop k cards → (k < length cards) × (card cards k ≡ c) × (more ≡ drop (k + 1) cards)
+dropped [] zero c more e = absurd (let z = ap length e in omega arith)
+dropped [] (suc k) c more e = absurd (let z = ap length e in omega arith)
+dropped (x ∷ xs) zero c more e = (omega arith, sym (head-eq_of_cons-eq e), tail-eq_of_cons-eq e)
+dropped (x ∷ xs) (suc k) c more e = let (h, is, rest) = dropped xs k c more e in (omega arith, is, rest ∙ ap (λ n. drop n (x ∷ xs)) (let z : suc (k + 1) ≡ suc k + 1 = omega arith in z))
+
+module _ (cards rest : List Card) (c : Card) (more : List Card) (b : Behind cards rest) (is : rest ≡ c ∷ more) where
+  abbrev k : ℕ
+  k = length cards - length rest
+
+  parts : (k < length cards) × (card cards k ≡ c) × (more ≡ drop (k + 1) cards)
+  parts = dropped cards k c more (sym is ∙ b.1)
+
+  pub next_place : length cards - length more ≡ k + 1
+  next_place = let low = parts.0 in let long = ap length is in omega arith
+
+  pub behind_more : Behind cards more
+  behind_more = (let low = parts.0 in let long = ap length is in omega arith, parts.2 ∙ ap (λ n. drop n cards) (sym next_place))
+
+  pub matched : (f : Found) → IsCardOf c f → Matches cards k f
+  matched f m = record { within = parts.0; byte = ap (λ (x : Card). x.byte) parts.1 ∙ m.byte; own = m.own }
+
+  pub unmatched : (f : Found) → (IsCardOf c f → ⊥) → Matches cards k f → ⊥
+  unmatched f n m = n (record { byte = ap (λ (x : Card). x.byte) (sym parts.1) ∙ m.byte; own = m.own })
+
+pub none_matched : (cards rest : List Card) (f : Found) → length rest ≡ 0 → Matches cards (length cards - length rest) f → ⊥
+none_matched cards rest f is m = let low = m.within in omega arith

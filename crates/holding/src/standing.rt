@@ -1,40 +1,32 @@
 // Whether cards name lines of a file, in their order.
-ghost use Rattle.std.specs.Prelude.{◌≡◌, ◌<◌, List, length, Decides};
+ghost use Rattle.std.specs.Prelude.{List, Decides};
 ghost use Rattle.model.specs.Files.{Placed, Lined};
 ghost use Rattle.holding.specs.Standing.{OnLines};
-ghost use Rattle.holding.specs.Matching.{Matches};
+ghost use Rattle.holding.specs.Matching.{IsCardOf};
 
-use lines::{Cursor, Found, Step};
+use lines::{Cursor, Found};
 use looking::is_continuation;
 use model::Card;
 
-// Whether the card at `k` is that of a line which continues none.
-fn is_card_of(cards: &[Card], k: usize, found: Found<'_>) -> bool
-    ensures { Decides result (Matches cards.now k found.entry) }
+// Whether a card is that of a line, and the line continues none.
+fn is_card_of(card: Card, found: Found<'_>) -> bool
+    ensures { Decides result (IsCardOf card found.entry) }
 {
-    if k >= cards.len() {
-        return false;
-    }
-    if cards[k].byte as usize != found.byte {
-        return false;
-    }
-    !is_continuation(found.line)
+    card.byte as usize == found.byte && !is_continuation(found.line)
 }
 
 // Whether each card names a line that continues none, in the order of the lines.
 pub fn on_lines(file: &[u8], cards: &[Card]) -> bool
     ensures { (ps : List Placed) → Lined file.now ps → Decides result (OnLines ps cards.now) }
 {
-    let mut cursor = Cursor::new(file);
-    let mut k = 0;
-    loop {
-        match cursor.step() {
-            Step::End => break,
-            Step::Broken => break,
-            Step::Line(found) => if is_card_of(cards, k, found) {
-                k += 1;
-            },
+    // the cards whose lines are still to come
+    let mut rest = cards;
+    for found in Cursor::new(file) {
+        if let Some((card, behind)) = rest.split_first() {
+            if is_card_of(*card, found) {
+                rest = behind;
+            }
         }
     }
-    k == cards.len()
+    rest.is_empty()
 }
