@@ -1,6 +1,6 @@
 -- Which cards of a drawer are those of what it holds. Assumes nothing.
-use Rattle.std.proofs.Common.{◌≡◌, ℕ, ◌<◌, ◌≤◌, ◌⊎◌, List, length, get_or, sym, ap, ◌∙◌, subst, inl, inr, arith, length-take}
-use Rattle.std.proofs.lemmas.List.{get_or_default}
+use Rattle.std.proofs.Common.{◌≡◌, ℕ, ◌<◌, ◌≤◌, ◌⊎◌, List, length, get_or, take, sym, ap, ◌∙◌, subst, inl, inr, arith, length-take}
+use Rattle.std.proofs.lemmas.List.{get_or_default, get_or-take}
 use Rattle.std.proofs.lemmas.Bool.{cases_lt}
 use Rattle.model.specs.declared.Card.{Card}
 use Rattle.model.specs.declared.State.TheVariants.{Filed, Voided, Emptied, Blank}
@@ -53,3 +53,13 @@ module _ (file : List ℕ) (cards : List Card) (d : Dataset) (h : Holds file car
   inside_named k x lt (inl is) = inside_by k x lt (λ b. clash (cc))
   inside_named k x lt (inr (inl is)) = inside_by k x lt (λ b. clash (cc))
   inside_named k x lt (inr (inr is)) = inside_by k x lt (λ b. clash (cc))
+
+  -- and they are those that are taken from the front
+  module _ (n : ℕ) (f : NamedFront cards n) where
+    pub taken_long : length (take n cards) ≡ card_count d
+    taken_long = let w = f.within in omega (arith, length-take n cards, front_count n f)
+
+    pub taken_card : (k : ℕ) → k < length (take n cards) → (k < card_count d) × Shown file (get_or (take n cards) k no_card) (get_or (entries d) k no_entry)
+    taken_card k h =
+        let inside : k < card_count d = omega (arith, taken_long) in
+        (inside, shown_card k _ inside (get_or-take n cards k no_card (omega (arith, front_count n f))))

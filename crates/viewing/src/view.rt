@@ -1,8 +1,12 @@
+ghost use Rattle.model.specs.Cards.{Holds};
+ghost use Rattle.model.specs.Datasets.{Dataset};
+
 use model::Card;
 
 // A drawer that holds a dataset of a file, and that file. Both are lent, so that neither can change while a view stands.
 #[derive(Clone, Copy)]
 pub struct View<'f, 'c> {
-    pub(crate) file: &'f [u8],
-    pub(crate) drawer: &'c [Card],
+    pub file: &'f [u8],
+    pub drawer: &'c [Card],
+    ghost held: { ∥ ((d : Dataset) × Holds file.now drawer.now d) ∥₁ },
 }

@@ -18,8 +18,8 @@ fn write_cards(file: &[u8], drawer: &[Card], buffer: &mut [u8], at: usize) -> us
     ensures { (d : Dataset) → Holds file.now drawer.now d → Adds buffer.old at (with_line_feeds (lines d)) result buffer.new }
 {
     let mut end = at;
-    for k in 0..count_named(drawer) {
-        end = write_card(file, drawer[k], buffer, end);
+    for card in &drawer[..count_named(drawer)] {
+        end = write_card(file, *card, buffer, end);
     }
     end
 }
@@ -30,8 +30,8 @@ impl View<'_, '_> {
         ensures { (d : Dataset) → Holds self.now.file.now self.now.drawer.now d → result ≡ length (written d) }
     {
         let mut size = MARK.len();
-        for k in 0..count_named(self.drawer) {
-            size = size.saturating_add(card_size(self.file, self.drawer[k]));
+        for card in &self.drawer[..count_named(self.drawer)] {
+            size += card_size(self.file, *card);
         }
         size
     }

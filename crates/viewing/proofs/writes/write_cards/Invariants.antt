@@ -4,5 +4,5 @@ use Rattle.model.specs.Cards.{Holds}
 use Rattle.writing.specs.Written.{Adds}
 use Rattle.viewing.proofs.writes.write_cards.Given as goal
 
-abbrev pub invariant-loop-k : goal.invariant-loop-k
-invariant-loop-k l = (d : Dataset) → Holds l.file l.drawer d → Adds l.initial.buffer l.at (with_line_feeds (all_lines (take l.k (entries d)))) l.end l.buffer
+abbrev pub invariant-loop-card : goal.invariant-loop-card
+invariant-loop-card l = (d : Dataset) → Holds l.file l.drawer d → Adds l.initial.buffer l.at (with_line_feeds (all_lines (take l.card-index (entries d)))) l.end l.buffer

@@ -4,5 +4,5 @@ use Rattle.model.specs.Cards.{Holds}
 use Rattle.viewing.specs.Views.{front_bytes}
 use Rattle.viewing.proofs.view.View.size.Given as goal
 
-abbrev pub invariant-loop-k : goal.invariant-loop-k
-invariant-loop-k l = (d : Dataset) → Holds l.self.file.now l.self.drawer.now d → (l.size ≡ length (front_bytes d l.k)) × (l.size ≤ 3 + 16777224 * l.k)
+abbrev pub invariant-loop-card : goal.invariant-loop-card
+invariant-loop-card l = (d : Dataset) → Holds l.self.file.now l.self.drawer.now d → (l.size ≡ length (front_bytes d l.card-index)) × (l.size ≤ 3 + 16777224 * l.card-index)
