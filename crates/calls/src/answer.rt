@@ -1,14 +1,13 @@
+ghost use Rattle.std.specs.Prelude.{◌≡◌};
+ghost use Rattle.calls.specs.declared.answer.Denial.TheVariants.{Unread, Refused};
+
 use model::Refusal;
 use reading::ReadFault;
 use viewing::Face;
 
-// What a call answers.
+// What a granted call answers.
 #[derive(Clone, Copy)]
 pub enum Answer<'f> {
-    // a reading is refused
-    Unread(ReadFault),
-    // any other call is
-    Refused(Refusal),
     // how many cards were read, went or are there, or how many bytes are written or would be
     Number(usize),
     // a view could be opened
@@ -17,4 +16,29 @@ pub enum Answer<'f> {
     Seen(Face<'f>),
     // a further line of a text, or none past the last
     Line(Option<&'f [u8]>),
+}
+
+// Why a call is refused.
+#[derive(Clone, Copy, PartialEq, Eq, Debug)]
+pub enum Denial {
+    // a reading is
+    Unread(ReadFault),
+    // any other call is
+    Refused(Refusal),
+}
+
+impl From<ReadFault> for Denial {
+    ghost from_gives = { λ f r. r ≡ Unread f };
+
+    fn from(fault: ReadFault) -> Denial {
+        Denial::Unread(fault)
+    }
+}
+
+impl From<Refusal> for Denial {
+    ghost from_gives = { λ f r. r ≡ Refused f };
+
+    fn from(refusal: Refusal) -> Denial {
+        Denial::Refused(refusal)
+    }
 }

@@ -6,5 +6,5 @@ mod answer;
 mod performing;
 mod viewed;
 
-pub use answer::Answer;
+pub use answer::{Answer, Denial};
 pub use performing::perform;

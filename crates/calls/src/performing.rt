@@ -4,20 +4,21 @@ ghost use Rattle.model.specs.Calls.{PerformsEvent};
 ghost use Rattle.model.specs.Laws.{Promised};
 ghost use Rattle.calls.specs.Answers.{event, DoesQuietly};
 
-use crate::answer::Answer;
+use crate::answer::{Answer, Denial};
 use crate::viewed::{count_call, look_call, more_call, open_call, size_call, write_call};
 use books::Book;
 use model::{Call, Card, promises_stand};
 use reading::read;
 use removing::remove;
 
-fn read_call<'f, B: Book>(book: &B, file: &'f [u8], drawer: &mut [Card]) -> Answer<'f>
+fn read_call<'f, B: Book>(
+    book: &B,
+    file: &'f [u8],
+    drawer: &mut [Card],
+) -> Result<Answer<'f>, Denial>
     ensures { DoesQuietly (B.meaning book.now) file.now drawer.old Call.Read result drawer.new }
 {
-    match read(file, drawer, book) {
-        Ok(count) => Answer::Number(count),
-        Err(fault) => Answer::Unread(fault),
-    }
+    Ok(Answer::Number(read(file, drawer, book)?))
 }
 
 fn remove_call<'f, B: Book>(
@@ -25,13 +26,10 @@ fn remove_call<'f, B: Book>(
     file: &'f [u8],
     drawer: &mut [Card],
     card: usize,
-) -> Answer<'f>
+) -> Result<Answer<'f>, Denial>
     ensures { DoesQuietly (B.meaning book.now) file.now drawer.old (Call.Remove card) result drawer.new }
 {
-    match remove(file, drawer, book, card) {
-        Ok(gone) => Answer::Number(gone),
-        Err(refusal) => Answer::Refused(refusal),
-    }
+    Ok(Answer::Number(remove(file, drawer, book, card)?))
 }
 
 // Does one call of any kind to a drawer. Its contract says what the call does, and that over every run of such calls, from
@@ -43,7 +41,7 @@ pub fn perform<'f, B: Book>(
     drawer: &mut [Card],
     buffer: &mut [u8],
     call: Call,
-) -> Answer<'f>
+) -> Result<Answer<'f>, Denial>
     ensures performs { PerformsEvent (B.meaning book.now) file.now drawer.old (event call buffer.old result buffer.new) drawer.new }
     ensures promised { Promised PerformsEvent }
 {

@@ -4,70 +4,58 @@ ghost use Rattle.model.specs.declared.Call.{Call};
 ghost use Rattle.model.specs.Calls.{Performs};
 ghost use Rattle.calls.specs.Answers.{event, DoesQuietly};
 
-use crate::answer::Answer;
+use crate::answer::{Answer, Denial};
 use model::{Call, Card};
-use viewing::{View, open};
+use viewing::open;
 
 // Whether a view can be opened.
-pub fn open_call<'f>(file: &'f [u8], drawer: &[Card]) -> Answer<'f>
+pub fn open_call<'f>(file: &'f [u8], drawer: &[Card]) -> Result<Answer<'f>, Denial>
     ensures { (m : Meaning) → DoesQuietly m file.now drawer.now Call.Open result drawer.now }
 {
-    match open(file, drawer) {
-        Ok(_) => Answer::Opened,
-        Err(refusal) => Answer::Refused(refusal),
-    }
+    let _view = open(file, drawer)?;
+    Ok(Answer::Opened)
 }
 
-pub fn count_call<'f>(file: &'f [u8], drawer: &[Card]) -> Answer<'f>
+pub fn count_call<'f>(file: &'f [u8], drawer: &[Card]) -> Result<Answer<'f>, Denial>
     ensures { (m : Meaning) → DoesQuietly m file.now drawer.now Call.Count result drawer.now }
 {
-    match open(file, drawer) {
-        Ok(view) => Answer::Number(view.count()),
-        Err(refusal) => Answer::Refused(refusal),
-    }
+    let view = open(file, drawer)?;
+    Ok(Answer::Number(view.count()))
 }
 
-pub fn size_call<'f>(file: &'f [u8], drawer: &[Card]) -> Answer<'f>
+pub fn size_call<'f>(file: &'f [u8], drawer: &[Card]) -> Result<Answer<'f>, Denial>
     ensures { (m : Meaning) → DoesQuietly m file.now drawer.now Call.Size result drawer.now }
 {
-    match open(file, drawer) {
-        Ok(view) => Answer::Number(view.size()),
-        Err(refusal) => Answer::Refused(refusal),
-    }
+    let view = open(file, drawer)?;
+    Ok(Answer::Number(view.size()))
 }
 
-pub fn look_call<'f>(file: &'f [u8], drawer: &[Card], card: usize) -> Answer<'f>
+pub fn look_call<'f>(file: &'f [u8], drawer: &[Card], card: usize) -> Result<Answer<'f>, Denial>
     ensures { (m : Meaning) → DoesQuietly m file.now drawer.now (Call.Look card) result drawer.now }
 {
-    match open(file, drawer) {
-        Ok(view) => match view.look(card) {
-            Ok(face) => Answer::Seen(face),
-            Err(refusal) => Answer::Refused(refusal),
-        },
-        Err(refusal) => Answer::Refused(refusal),
-    }
+    let view = open(file, drawer)?;
+    Ok(Answer::Seen(view.look(card)?))
 }
 
-pub fn more_call<'f>(file: &'f [u8], drawer: &[Card], card: usize, number: usize) -> Answer<'f>
+pub fn more_call<'f>(
+    file: &'f [u8],
+    drawer: &[Card],
+    card: usize,
+    number: usize,
+) -> Result<Answer<'f>, Denial>
     ensures { (m : Meaning) → DoesQuietly m file.now drawer.now (Call.More card number) result drawer.now }
 {
-    match open(file, drawer) {
-        Ok(view) => match view.more(card, number) {
-            Ok(line) => Answer::Line(line),
-            Err(refusal) => Answer::Refused(refusal),
-        },
-        Err(refusal) => Answer::Refused(refusal),
-    }
+    let view = open(file, drawer)?;
+    Ok(Answer::Line(view.more(card, number)?))
 }
 
-pub fn write_call<'f>(file: &'f [u8], drawer: &[Card], buffer: &mut [u8]) -> Answer<'f>
+pub fn write_call<'f>(
+    file: &'f [u8],
+    drawer: &[Card],
+    buffer: &mut [u8],
+) -> Result<Answer<'f>, Denial>
     ensures { (m : Meaning) → Performs m file.now drawer.now (event Call.Write buffer.old result buffer.new) drawer.now Call.Write }
 {
-    match open(file, drawer) {
-        Ok(view) => match view.write(buffer) {
-            Ok(size) => Answer::Number(size),
-            Err(refusal) => Answer::Refused(refusal),
-        },
-        Err(refusal) => Answer::Refused(refusal),
-    }
+    let view = open(file, drawer)?;
+    Ok(Answer::Number(view.write(buffer)?))
 }

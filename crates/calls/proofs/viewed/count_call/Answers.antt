@@ -1,7 +1,10 @@
 use Rattle.std.proofs.Common.{refl}
+use Rattle.std.proofs.lemmas.Result.{err_from_is_err_and}
 use Rattle.model.specs.declared.Call.TheVariants.{Count}
-use Rattle.calls.proofs.Granting.{view_refused}
+use Rattle.calls.proofs.Granting.{view_denied}
 use Rattle.calls.proofs.viewed.count_call.Goals as goal
 
-pub returns-in-Err : goal.returns-in-Err
-returns-in-Err c m buffer = (view_refused m c.args.file.now c.args.drawer.now Count buffer c.in-Err.refusal c.in-Err.ensures, refl)
+pub returns-in_err-view : goal.returns-in_err-view
+returns-in_err-view c m buffer =
+    let p = err_from_is_err_and c.from_residual.result c.from_residual.ensures.1 in
+    (view_denied m c.args.file.now c.args.drawer.now Count buffer c.in_err-view.field-0.0 c.from_residual.result p.0 p.1 p.2 c.in_err-view.ensures, refl)

@@ -1,11 +1,14 @@
-use Rattle.std.proofs.Common.{refl}
+use Rattle.std.proofs.Common.{Ok, refl}
+use Rattle.std.proofs.lemmas.Result.{err_from_is_err_and}
 use Rattle.model.specs.declared.Call.TheVariants.{Open}
 use Rattle.calls.specs.declared.answer.Answer.TheVariants.{Opened}
-use Rattle.calls.proofs.Granting.{view_refused, view_granted}
+use Rattle.calls.proofs.Granting.{view_denied, view_granted}
 use Rattle.calls.proofs.viewed.open_call.Goals as goal
 
-pub returns-in-Ok : goal.returns-in-Ok
-returns-in-Ok c m buffer = (view_granted m c.args.file.now c.args.drawer.now Open buffer Opened buffer c.in-Ok.ensures.2 (λ d h. refl), refl)
+pub returns-in_err-_view : goal.returns-in_err-_view
+returns-in_err-_view c m buffer =
+    let p = err_from_is_err_and c.from_residual.result c.from_residual.ensures.1 in
+    (view_denied m c.args.file.now c.args.drawer.now Open buffer c.in_err-_view.field-0.0 c.from_residual.result p.0 p.1 p.2 c.in_err-_view.ensures, refl)
 
-pub returns-in-Err : goal.returns-in-Err
-returns-in-Err c m buffer = (view_refused m c.args.file.now c.args.drawer.now Open buffer c.in-Err.refusal c.in-Err.ensures, refl)
+pub returns : goal.returns
+returns c m buffer = (view_granted m c.args.file.now c.args.drawer.now Open buffer (Ok Opened) buffer c.in_ok-_view.ensures.2 (λ d h. refl), refl)

@@ -1,8 +1,9 @@
+use Rattle.std.proofs.lemmas.Result.{err_from_is_err_and}
 use Rattle.model.specs.declared.Call.TheVariants.{Write}
-use Rattle.calls.proofs.Granting.{view_refused}
+use Rattle.calls.proofs.Granting.{view_denied}
 use Rattle.calls.proofs.viewed.write_call.Goals as goal
 
-pub returns-in-Err : goal.returns-in-Err
-returns-in-Err c m =
-    let (is, none) = c.in-Err.ensures in
-    (view_refused m c.args.file.now c.args.drawer.now Write c.args.buffer.now c.in-Err.refusal (is, none), λ d h. absurd (none d h))
+pub returns-in_err-view : goal.returns-in_err-view
+returns-in_err-view c m =
+    let p = err_from_is_err_and c.from_residual.result c.from_residual.ensures.1 in
+    (view_denied m c.args.file.now c.args.drawer.now Write c.args.buffer.now c.in_err-view.field-0.0 c.from_residual.result p.0 p.1 p.2 c.in_err-view.ensures, λ d h. absurd (c.in_err-view.ensures.1 d h))
