@@ -147,10 +147,6 @@ module _ (room : ℕ) (ps : List Placed) (names : List Name) (i : IndexOf ps nam
   pub names_aimed : (o : Option ℕ) → CardsNoted (λ k. Keeps13 (lines_of ps) (place_of ps k)) (length (others ps)) o → Noted (LineKeeps aimed room ps) ps (card_spot ps o)
   names_aimed o h = aimed_noted ByteLess byte_strict room ps kept (cards_in names) i.index o h
 
--- a part from the start
-pub from_start : {X : Type 0} (n : ℕ) (xs : List X) → take (n - 0) xs ≡ take n xs
-from_start n xs = ap (λ k. take k xs) (let z : n - 0 ≡ n = omega arith in z)
-
 -- cards for which there is room
 pub cut_all : {X : Type 0} (n room : ℕ) (xs : List X) → n ≡ min (length xs) room → length xs ≤ room → take n xs ≡ xs
 cut_all n room xs e h = take_all n xs (omega arith)
