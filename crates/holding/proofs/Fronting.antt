@@ -1,9 +1,11 @@
 -- The cards that name lines, and a file that passes no check. Assumes nothing.
-use Rattle.std.proofs.Common.{◌≡◌, ℕ, ◌-◌, ◌<◌, ◌≤◌, false, List, length, take, drop, None, Ok, Err, Result, sym, refl, ap, ◌∙◌, subst, inl, inr, arith, length-take}
+use Rattle.std.proofs.Common.{◌≡◌, ℕ, ◌<◌, ◌≤◌, false, List, length, take, drop, Some, None, Ok, Err, Result, sym, refl, ap, ◌∙◌, subst, inl, inr, arith, length-take, Bor}
 use lib.ListN.{length-map}
 use Rattle.std.specs.List.{AllByRecursion}
 use Rattle.std.proofs.ByRecursion.{All-from_get_or}
-use Rattle.std.proofs.lemmas.List.{take-append-drop, take_rest, get_or-take, drop_more, drop_all}
+use Rattle.std.proofs.lemmas.List.{take-append-drop, get_or-take, drop_more, drop_all}
+use Rattle.std.specs.Result.{result_ok}
+use Rattle.std.proofs.lemmas.Option.{none-some, same_Some}
 use Rattle.std.proofs.lemmas.Bool.{cases_lt}
 use Rattle.model.specs.declared.Card.{Card}
 use Rattle.model.specs.declared.Kind.TheVariants.{Nothing}
@@ -24,12 +26,15 @@ use Rattle.characters.specs.declared.fault.ByteFault.TheVariants as byte
 use Rattle.lines.specs.declared.fault.LineFault.{LineFault}
 use Rattle.lines.specs.declared.fault.LineFault.TheVariants as line
 use Rattle.lines.specs.Faults.{line_fault}
+use Rattle.lines.specs.Counts.{Checks}
+use Rattle.lines.specs.declared.rules.Counts.{Counts}
 use Rattle.naming.specs.declared.NameFault.{NameFault}
 use Rattle.naming.specs.declared.NameFault.TheVariants.{Repeated, Lost}
 use Rattle.naming.specs.Naming.{Name, NamesFit, NamesFound}
 use Rattle.model.proofs.Lining.{lined_once}
 use Rattle.holding.specs.Standing.{card, NamedFront, OnLines, Fits}
-use Rattle.naming.proofs.Indexing.{from_start}
+use Rattle.model.specs.Removal.{card_count}
+use Rattle.holding.specs.declared.telling.Kept.{Kept}
 use Rattle.holding.specs.Holding.{Front, HeldAs}
 use Rattle.holding.proofs.Keeping.{Framed-cards, framed_cards}
 use Rattle.holding.proofs.Deciding.{ordered_rules, filed_on_lines, held_fits, as_placed, kept_rules, holds_names, names_hold, cards_show}
@@ -91,30 +96,34 @@ passes_not_refused file ps f p r = numbers f (ap (λ (x : Fault). x.number) (ref
       };
     })
 
+pub passes_checked : (file : List ℕ) (ps : List Placed) (r : Result Counts LineFault) → Passes file ps → Checks file r → None ≡ result_ok r → ⊥
+passes_checked file ps (Ok n) p k e = none-some n e
+passes_checked file ps (Err f) p k e = passes_not_refused file ps f p k
+
 -- What a dataset that is held says of the drawer
 
 module _ (file : List ℕ) (cards : List Card) (n : ℕ) (d : Dataset) (f : NamedFront cards n) (h : Holds file cards d) where
   pub few_held : n ≤ 65535
   few_held = let w = f.within in let few = h.few in omega (arith, length-take n cards, ap length (front_once file cards n d f h).0)
 
-  pub blanks_held : Blanks (take (length cards - n) (drop n cards))
-  blanks_held = subst Blanks (sym (take_rest cards n ∙ (front_once file cards n d f h).1)) h.rest_blank
+  pub blanks_held : Blanks (drop n cards)
+  blanks_held = subst Blanks (sym (front_once file cards n d f h).1) h.rest_blank
 
   files_held : FilesAll h.placed (take n cards) (entries d)
   files_held = subst (λ cs. FilesAll h.placed cs (entries d)) (sym (front_once file cards n d f h).0) h.files
 
-  pub lines_held : OnLines h.placed (take (n - 0) cards)
-  lines_held = subst (OnLines h.placed) (sym (from_start n cards)) (filed_on_lines h.placed (take n cards) (entries d) files_held (subst Rising (sym (front_once file cards n d f h).0) h.rising))
+  pub lines_held : OnLines h.placed (take n cards)
+  lines_held = filed_on_lines h.placed (take n cards) (entries d) files_held (subst Rising (sym (front_once file cards n d f h).0) h.rising)
 
-  pub fits_held : Fits h.placed (take (n - 0) cards)
-  fits_held = subst (Fits h.placed) (sym (from_start n cards)) (held_fits file h.placed (take n cards) d h.passes.lined files_held h.is)
+  pub fits_held : Fits h.placed (take n cards)
+  fits_held = held_fits file h.placed (take n cards) d h.passes.lined files_held h.is
 
 -- What the names of the cards then say
 
 throughout : (K : List Line → ℕ → Type 0) (qs : List Placed) → ((i : ℕ) → i < length qs → K (lines_of qs) i) → Throughout K (lines_of qs)
 throughout K qs h i l = h i (omega (arith, length-map qs (λ q. q.line)))
 
-module _ (file : List ℕ) (cards : List Card) (n : ℕ) (f : Front file cards n) (table out : List Name) (room : n ≤ length table) where
+module _ (file : List ℕ) (cards : List Card) (n room : ℕ) (f : Front file cards n) (low : n ≤ room) where
   abbrev cs : List Card
   cs = take n cards
 
@@ -127,24 +136,33 @@ module _ (file : List ℕ) (cards : List Card) (n : ℕ) (f : Front file cards n
   long : length cs ≡ n
   long = let w = f.named.within in omega (arith, length-take n cards)
 
-  found : (r : Result ℕ NameFault) → NamesFit file (take (n - 0) cards) table r out → NamesFound 0 left r out
-  found r fit = subst (λ xs. NamesFit file xs table r out) (from_start n cards) fit 0 left (cards_show file f.placed f.passes cs framing.es framing.kept) (kept_rules file f.placed f.passes cs framing.es framing.kept framing.shaped 0) (omega (arith, long))
+  found : (r : Result (Bor (List Name)) NameFault) → NamesFit file cs room r → NamesFound 0 left r
+  found r fit = fit 0 left (cards_show file f.placed f.passes cs framing.es framing.kept) (kept_rules file f.placed f.passes cs framing.es framing.kept framing.shaped 0) (omega (arith, long))
 
-  pub tell_held : (names : ℕ) → NamesFit file (take (n - 0) cards) table (Ok names) out → HeldAs file cards (record { cards = n; names = names }) out
-  tell_held names fit =
-      let (k12, k13, index) = found (Ok names) fit in
-      let h = names_hold file f.placed f.passes cs framing.es framing.kept framing.shaped cards (drop n cards) f.lines (sym (take-append-drop n cards)) (let few = f.few in omega (arith, long)) f.rest_blank (throughout Keeps12 left k12) (throughout Keeps13 left k13) in
-      record { dataset = h.dataset; holds = h.holds; counted = sym long ∙ h.many; placed = left; lines_are = h.lines_are; index = index }
+  pub tell_held : (h : Kept) → h.cards.now ≡ cs → NamesFit file cs room (Ok h.names) → HeldAs file cards h
+  tell_held h same fit =
+      let (k12, k13, index) = found (Ok h.names) fit in
+      let q = names_hold file f.placed f.passes cs framing.es framing.kept framing.shaped cards (drop n cards) f.lines (sym (take-append-drop n cards)) (let few = f.few in omega (arith, long)) f.rest_blank (throughout Keeps12 left k12) (throughout Keeps13 left k13) in
+      let counted : n ≡ card_count q.dataset = sym long ∙ q.many in
+      record { dataset = q.dataset; holds = q.holds; cards_are = same ∙ ap (λ k. take k cards) counted; counted = ap length same ∙ q.many; placed = left; lines_are = q.lines_are; index = index }
 
   names_of : (d : Dataset) → Holds file cards d → Throughout Keeps12 (lines_of left) × Throughout Keeps13 (lines_of left)
   names_of d h =
       let same = lined_once file h.placed f.placed h.passes.lined f.passes.lined in
       holds_names file f.placed f.passes cs framing.es framing.kept framing.shaped d (subst (λ ps. FilesAll ps cs (entries d)) same (files_held file cards n d f.named h)) h.is
 
-  pub tell_none : (x : NameFault) → NamesFit file (take (n - 0) cards) table (Err x) out → (d : Dataset) → Holds file cards d → ⊥
+  pub tell_found : (h : Kept) (r : Result (Bor (List Name)) NameFault) → h.cards.now ≡ cs → NamesFit file cs room r → Some h.names ≡ result_ok r → HeldAs file cards h
+  tell_found h (Ok names) same fit e = tell_held h same (subst (λ x. NamesFit file cs room (Ok x)) (sym (same_Some h.names names e)) fit)
+  tell_found h (Err x) same fit e = absurd (none-some h.names (sym e))
+
+  pub tell_none : (x : NameFault) → NamesFit file cs room (Err x) → (d : Dataset) → Holds file cards d → ⊥
   tell_none (Repeated k) fit d h =
       let (i, first, _) = found (Err (Repeated k)) fit in
       first.breaks ((names_of d h).0 i (let w = first.within in omega (arith, length-map left (λ q. q.line))))
   tell_none (Lost k) fit d h =
       let (_, (i, first, _)) = found (Err (Lost k)) fit in
       first.breaks ((names_of d h).1 i (let w = first.within in omega (arith, length-map left (λ q. q.line))))
+
+  pub tell_lost : (r : Result (Bor (List Name)) NameFault) → NamesFit file cs room r → None ≡ result_ok r → (d : Dataset) → Holds file cards d → ⊥
+  tell_lost (Ok names) fit e = absurd (none-some names e)
+  tell_lost (Err x) fit e = tell_none x fit

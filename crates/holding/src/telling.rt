@@ -7,58 +7,41 @@ use crate::front::{are_blank, count_named};
 use crate::standing::on_lines;
 use lines::check;
 use model::{Card, MOST};
-use naming::check_names;
+use naming::{Named, check_names};
 
-// How many cards of a drawer name lines, and how many of them have an identifier.
+// The cards of a drawer that name lines, and the index of their identifiers.
 #[derive(Clone, Copy, PartialEq, Eq, Debug)]
-pub struct Kept {
-    pub cards: usize,
-    pub names: usize,
+pub struct Kept<'f, 'c, 'n> {
+    pub cards: &'c [Card],
+    pub names: &'n [Named<'f>],
 }
 
-// How many cards name lines of the file, if they fit one another and the others are blank.
-fn held_cards(file: &[u8], drawer: &[Card]) -> Option<usize>
+// The cards that name lines of the file, if they fit one another and the others are blank.
+fn held_cards<'c>(file: &[u8], drawer: &'c [Card]) -> Option<&'c [Card]>
     ensures { Fronts file.now drawer.now result }
 {
-    match check(file) {
-        Err(_) => return None,
-        Ok(_) => {}
-    }
+    check(file).ok()?;
     let count = count_named(drawer);
-    if count > MOST {
+    let (cards, rest) = drawer.split_at(count);
+    if count > MOST || !are_blank(rest) || !on_lines(file, cards) || !fits(file, cards) {
         return None;
     }
-    if !are_blank(&drawer[count..]) {
-        return None;
-    }
-    let cards = &drawer[0..count];
-    if !on_lines(file, cards) {
-        return None;
-    }
-    if !fits(file, cards) {
-        return None;
-    }
-    Some(count)
+    Some(cards)
 }
 
-// Whether a drawer holds a dataset of a file, for any cards whatever. Then the front of the table is the index of its
-// identifiers. The table has to be as long as the cards that a drawer may hold.
-pub fn held<'a>(file: &'a [u8], drawer: &[Card], table: &mut [(&'a [u8], usize)]) -> Option<Kept>
-    ensures { Tells file.now drawer.now (length table.old) result table.new }
+// What a drawer holds of a file, for any cards whatever, if that is a dataset. The table has to be as long as the cards
+// that a drawer may hold.
+pub fn held<'f, 'c, 'n>(
+    file: &'f [u8],
+    drawer: &'c [Card],
+    table: &'n mut [Named<'f>],
+) -> Option<Kept<'f, 'c, 'n>>
+    ensures { Tells file.now drawer.now (length table.old) result }
 {
-    match held_cards(file, drawer) {
-        None => None,
-        Some(count) => {
-            if count > table.len() {
-                return None;
-            }
-            match check_names(file, &drawer[0..count], table) {
-                Ok(names) => Some(Kept {
-                    cards: count,
-                    names,
-                }),
-                Err(_) => None,
-            }
-        }
+    let cards = held_cards(file, drawer)?;
+    if cards.len() > table.len() {
+        return None;
     }
+    let names = check_names(file, cards, table).ok()?;
+    Some(Kept { cards, names })
 }

@@ -1,40 +1,41 @@
 -- The index of identifiers: how it is collected, and what is found in it. Assumes nothing.
-use Rattle.std.proofs.Common.{◌≡◌, ℕ, ◌+◌, ◌-◌, ◌<◌, ◌≤◌, ◌⊎◌, List, [], ◌∷◌, map, length, get_or, take, Some, None, Option, Ordering, Less, Equal, Greater, sym, refl, ap, ◌∙◌, subst, inl, inr, true≢false, arith, Bor}
+use Rattle.std.proofs.Common.{◌≡◌, ℕ, ◌+◌, ◌-◌, ◌<◌, ◌≤◌, min, List, [], ◌∷◌, map, length, get_or, set, take, Bool, true, false, is_none, Some, None, Option, Ok, Err, Result, Ordering, Less, Equal, Greater, sym, refl, ap, ◌∙◌, subst, inl, inr, true≢false, arith, Bor}
 use lib.ListN.{length-map}
-use Rattle.std.specs.Cmp.{nat_cmp_total, ranks, on_total, then_total}
+use Rattle.std.specs.Cmp.{nat_cmp_total, on_total}
 use Rattle.std.specs.Cmp.Lexicographic.{slice_cmp, lists_total}
-use Rattle.std.specs.Option.{option_map}
-use Rattle.std.specs.Ordering.{is_lt, is_gt, ordering_reverse, ordering_then, ordering_index, MatchOrdering, nat_cmp}
-use Rattle.std.specs.List.Sorted.{IsPartitionPoint, IsNonDecreasingBy, IsPermutation}
+use Rattle.std.specs.Option.{option_map, MatchOption}
+use Rattle.std.specs.Ordering.{is_lt, ordering_reverse, ordering_then, ordering_index, nat_cmp}
+use Rattle.std.specs.List.Sorted.{IsPartitionPoint, IsNonDecreasingBy, IsSortedBy, IsPermutation, IsBinarySearchResult, IsSearchInRange}
+use Rattle.std.specs.List.{AllWithin, HoldsAt}
+use Rattle.std.specs.Result.{result_ok}
 use Rattle.std.proofs.ByRecursion.{All-get_or}
-use Rattle.std.proofs.lemmas.List.MinMax.{ranks_by}
-use Rattle.std.proofs.lemmas.List.{take_more_set, get_or-map, get_or_default}
-use Rattle.std.proofs.lemmas.List.Sorted.{sorted_far, searchable_from_sorted}
+use Rattle.std.proofs.lemmas.List.{take_all, take_more_set, get_or-map, get_or_default}
+use Rattle.std.proofs.lemmas.List.Sorted.{searchable_from_sorted}
+use Rattle.std.specs.Bool.{MatchBool}
 use Rattle.std.proofs.lemmas.Bool.{cases_lt}
 use Rattle.model.specs.declared.Card.{Card}
 use Rattle.model.specs.Lines.{Line, pointer}
 use Rattle.model.specs.Files.{Placed}
+use Rattle.model.specs.Cards.{blank}
 use Rattle.model.specs.Refusals.{lines_of, others, apart, aimed, Keeps13, LineKeeps}
 use Rattle.model.specs.LineTurns.{Noted, RulesKept}
 use Rattle.model.specs.Index.{place_of, card_line, card_spot, key, name_of, CardsNoted, Indexed, LeastRepeat}
 use Rattle.model.proofs.Index.{apart_noted, card_aimed, card_lost, card_pointless, aimed_noted, least_same}
 use Rattle.model.proofs.Sorting.{Collected, collected_none, collected_skip, collected_more, collected_shuffled, sorted_indexed, byte_strict, byte_total}
-use Rattle.naming.specs.Naming.{Name, ByteLess, InOrder, IndexOf, Notes, LeastName, Target, FindsName, TargetOf, CardShows}
+use Rattle.naming.specs.Naming.{Name, ByteLess, InOrder, IndexOf, LeastName, Target, FindsName, TargetOf, CardShows, ShowsPointer, IsLost, FindsLost}
 
 abbrev pub Gathered : List Placed → ℕ → List Name → Type 0
 Gathered ps n names = Collected (λ (e : Name). e.0.now) (λ (e : Name). e.1) ps n names
 
 -- One card more
 
-pub gathered_more : (ps : List Placed) (i : Option (Bor (List ℕ))) (n k : ℕ) (names : List Name) (r : ℕ) (out : List Name) → n < length names → Notes i n k names r out → option_map (λ (p : Bor (List ℕ)). p.now) i ≡ (card_line ps k).identifier → Gathered ps k (take n names) → Gathered ps (k + 1) (take r out)
-gathered_more ps None n k names r out h (e, o) is g = subst (λ xs. Gathered ps (k + 1) xs) (λ j. take (sym e j) (sym o j)) (collected_skip (λ (e : Name). e.0.now) (λ (e : Name). e.1) ps k (take n names) (sym is) g)
-gathered_more ps (Some p) n k names r out h (e, o) is g =
-    subst (λ xs. Gathered ps (k + 1) xs) (sym ((λ j. take (e j) (o j)) ∙ take_more_set names n (p, k) h))
-    (collected_more (λ (e : Name). e.0.now) (λ (e : Name). e.1) ps k (take n names) (p, k) refl (sym is) g)
+pub gathered_skip : (ps : List Placed) (i : Option (Bor (List ℕ))) (k : ℕ) (names : List Name) → i ≡ None → option_map (λ (p : Bor (List ℕ)). p.now) i ≡ (card_line ps k).identifier → Gathered ps k names → Gathered ps (k + 1) names
+gathered_skip ps i k names e is g = collected_skip (λ (e : Name). e.0.now) (λ (e : Name). e.1) ps k names (sym is ∙ ap (option_map (λ (p : Bor (List ℕ)). p.now)) e) g
 
-pub noted_length : (i : Option (Bor (List ℕ))) (n k : ℕ) (names : List Name) (r : ℕ) (out : List Name) → Notes i n k names r out → r ≤ n + 1
-noted_length None n k names r out (e, o) = omega arith
-noted_length (Some p) n k names r out (e, o) = omega arith
+pub gathered_more : (ps : List Placed) (i : Option (Bor (List ℕ))) (p : Bor (List ℕ)) (n k : ℕ) (names : List Name) → n < length names → i ≡ Some p → option_map (λ (p : Bor (List ℕ)). p.now) i ≡ (card_line ps k).identifier → Gathered ps k (take n names) → Gathered ps (k + 1) (take (n + 1) (set names n (p, k)))
+gathered_more ps i p n k names h e is g =
+    subst (λ xs. Gathered ps (k + 1) xs) (sym (take_more_set names n (p, k) h))
+    (collected_more (λ (e : Name). e.0.now) (λ (e : Name). e.1) ps k (take n names) (p, k) refl (sym is ∙ ap (option_map (λ (p : Bor (List ℕ)). p.now)) e) g)
 
 pub gathered_none : (ps : List Placed) → Gathered ps 0 []
 gathered_none ps = collected_none (λ (e : Name). e.0.now) (λ (e : Name). e.1) ps
@@ -57,8 +58,8 @@ index_of ps xs ys c s up =
 
 -- What a search finds
 
-abbrev against : Name → Name → Ordering
-against y x = ordering_then (slice_cmp nat_cmp y.0.now x.0.now) (nat_cmp y.1 x.1)
+abbrev pub Absent : List Name → List ℕ → Type 0
+Absent names x = (a : ℕ) (d : Name) → a < length names → (get_or names a d).0.now ≡ x → ⊥
 
 lex_equal : (xs ys : List ℕ) → slice_cmp nat_cmp xs ys ≡ Equal → xs ≡ ys
 lex_equal xs ys e = elim (byte_total xs ys) [
@@ -75,55 +76,41 @@ lex_refl xs ys e = go (slice_cmp nat_cmp xs ys) refl
     go Equal q = refl
     go Greater q = absurd (byte_strict.irrefl ys (ap (slice_cmp nat_cmp ys) (sym e) ∙ (lists_total nat_cmp_total).antisymm ys xs ∙ ap ordering_reverse q))
 
--- an entry with the name is not below that name at card 0
-name_not_below : (y x : Name) → x.1 ≡ 0 → y.0.now ≡ x.0.now → against y x ≡ Less → ⊥
-name_not_below y x z e l = go (nat_cmp y.1 x.1) (ranks y.1 x.1) (sym (ap (λ k. ordering_then k (nat_cmp y.1 x.1)) (lex_refl y.0.now x.0.now e)) ∙ l)
+-- what is in order by name and card is in order by name
+names_rise : (names : List Name) → InOrder names → IsSortedBy (λ (a : Name) b. is_lt (slice_cmp nat_cmp a.0.now b.0.now)) names
+names_rise names up k d z h = first (slice_cmp nat_cmp (get_or names (k + 1) d).0.now (get_or names k d).0.now) _ (up k d z h)
   where
-    go : (k : Ordering) → MatchOrdering k (y.1 < x.1) (y.1 ≡ x.1) (x.1 < y.1) → k ≡ Less → ⊥
-    go Less r q = omega arith
-    go Equal r q = true≢false (sym (ap is_lt q))
-    go Greater r q = true≢false (sym (ap is_lt q))
+    first : (x y : Ordering) → is_lt (ordering_then x y) ≡ false → is_lt x ≡ false
+    first Less y e = e
+    first Equal y e = refl
+    first Greater y e = refl
 
-equal_name : (y x : Name) → against y x ≡ Equal → y.0.now ≡ x.0.now
-equal_name y x e = go (slice_cmp nat_cmp y.0.now x.0.now) refl e
-  where
-    go : (k : Ordering) → slice_cmp nat_cmp y.0.now x.0.now ≡ k → ordering_then k (nat_cmp y.1 x.1) ≡ Equal → y.0.now ≡ x.0.now
-    go Less q f = absurd (true≢false (ap is_lt f))
-    go Equal q f = lex_equal y.0.now x.0.now q
-    go Greater q f = absurd (true≢false (ap is_gt f))
+pub searched_absent : (names : List Name) (x : Bor (List ℕ)) (i : ℕ) → (IsNonDecreasingBy (λ (y : Name). ordering_index (slice_cmp nat_cmp y.0.now x.now)) names → IsPartitionPoint (λ (y : Name). slice_cmp nat_cmp y.0.now x.now ≡ Less) (λ (y : Name). slice_cmp nat_cmp y.0.now x.now ≡ Greater) names i) → InOrder names → Absent names x.now
+searched_absent names x i p up a d h e =
+    let q = p (searchable_from_sorted (on_total (λ (y : Bor (List ℕ)). y.now) (lists_total nat_cmp_total)) (λ (y : Name). y.0) names x (names_rise names up)) in
+    let same = lex_refl (get_or names a d).0.now x.now e in
+    elim (cases_lt a i) [
+      | inl l ↦ (let z = sym same ∙ q.0 a d (omega arith) l in cc)
+      | inr l ↦ (let z = sym same ∙ q.1 a d l h in cc)
+    ]
 
--- one above it, with another name, has a greater name
-other_above : (y x : Name) → (y.0.now ≡ x.0.now → ⊥) → against y x ≡ Greater → ByteLess x.0.now y.0.now
-other_above y x h g = go (slice_cmp nat_cmp y.0.now x.0.now) refl g
-  where
-    go : (k : Ordering) → slice_cmp nat_cmp y.0.now x.0.now ≡ k → ordering_then k (nat_cmp y.1 x.1) ≡ Greater → ByteLess x.0.now y.0.now
-    go Less q f = absurd (true≢false (sym (ap is_gt f)))
-    go Equal q f = absurd (h (lex_equal y.0.now x.0.now q))
-    go Greater q f = (lists_total nat_cmp_total).antisymm x.0.now y.0.now ∙ ap ordering_reverse q
+-- what a search by the name answers
+module _ (names : List Name) (x : Bor (List ℕ)) (r : Result ℕ ℕ) (found : IsBinarySearchResult (λ (y : Name). slice_cmp nat_cmp y.0.now x.now) names r) where
+  pub absent_by : None ≡ result_ok r → InOrder names → Absent names x.now
+  absent_by none = go r found none
+    where
+      go : (r : Result ℕ ℕ) → IsBinarySearchResult (λ (y : Name). slice_cmp nat_cmp y.0.now x.now) names r → None ≡ result_ok r → InOrder names → Absent names x.now
+      go (Ok i) p e = absurd (let z : ◌≡◌ {A = ℕ} 0 1 = cc in omega arith)
+      go (Err i) p e = searched_absent names x i p
 
-abbrev pub Absent : List Name → List ℕ → Type 0
-Absent names x = (a : ℕ) (d : Name) → a < length names → (get_or names a d).0.now ≡ x → ⊥
-
-pub absent : (names : List Name) (x : Name) (i : ℕ) → x.1 ≡ 0 → InOrder names → IsPartitionPoint (λ y. against y x ≡ Less) (λ y. against y x ≡ Greater) names i → (length names ≤ i) ⊎ ((d : Name) → (get_or names i d).0.now ≡ x.0.now → ⊥) → Absent names x.0.now
-absent names x i z up p past a d h e = elim (cases_lt a i) [
-  | inl l ↦ name_not_below (get_or names a d) x z e (p.0 a d (omega arith) l)
-  | inr l ↦ elim past [
-    | inl q ↦ omega arith
-    | inr q ↦
-        let above = other_above (get_or names i d) x (q d) (p.1 i d (omega arith) (omega arith)) in
-        let low : slice_cmp nat_cmp (get_or names a d).0.now (get_or names i d).0.now ≡ Less = ap (λ n. slice_cmp nat_cmp n (get_or names i d).0.now) e ∙ above in
-        true≢false (sym (ap (λ k. is_lt (ordering_then k (nat_cmp (get_or names a d).1 (get_or names i d).1))) low) ∙ sorted_far (λ x y. is_lt (against x y)) (ranks_by (then_total (on_total (λ p. p.0) (on_total (λ x. x.now) (lists_total nat_cmp_total))) (on_total (λ p. p.1) nat_cmp_total)) (λ (y : Name). y)) names up i a d l h)
-  ]
-]
-
-pub searched_absent : (names : List Name) (x : Name) (i : ℕ) → x.1 ≡ 0 → (IsNonDecreasingBy (λ y. ordering_index (against y x)) names → IsPartitionPoint (λ y. against y x ≡ Less) (λ y. against y x ≡ Greater) names i) → (length names ≤ i) ⊎ ((d : Name) → (get_or names i d).0.now ≡ x.0.now → ⊥) → InOrder names → Absent names x.0.now
-searched_absent names x i z p past up = absent names x i z up (p (searchable_from_sorted (then_total (on_total (λ p. p.0) (on_total (λ x. x.now) (lists_total nat_cmp_total))) (on_total (λ p. p.1) nat_cmp_total)) (λ (y : Name). y) names x up)) past
-
-pub found_there : (names : List Name) (i : ℕ) (x : List ℕ) (u : Name) → i < length names → (get_or names i u).0.now ≡ x → (a : ℕ) × (a < length names) × ((d : Name) → ((get_or names a d).0.now ≡ x) × ((get_or names a d).1 ≡ (get_or names i u).1))
-found_there names i x u h e = (i, h, λ d. (ap (λ (y : Name). y.0.now) (get_or_default names i d u h) ∙ e, ap (λ (y : Name). y.1) (get_or_default names i d u h)))
-
-pub found_equal : (names : List Name) (i : ℕ) (x : Name) (u : Name) → i < length names → ((d : Name) → against (get_or names i d) x ≡ Equal) → (a : ℕ) × (a < length names) × ((d : Name) → ((get_or names a d).0.now ≡ x.0.now) × ((get_or names a d).1 ≡ (get_or names i u).1))
-found_equal names i x u h e = found_there names i x.0.now u h (equal_name (get_or names i u) x (e u))
+  pub found_by : (i : ℕ) (u : Name) → IsSearchInRange r (length names) → Some i ≡ result_ok r → (a : ℕ) × (a < length names) × ((d : Name) → ((get_or names a d).0.now ≡ x.now) × ((get_or names a d).1 ≡ (get_or names i u).1))
+  found_by i u within some = go r found within some
+    where
+      go : (r : Result ℕ ℕ) → IsBinarySearchResult (λ (y : Name). slice_cmp nat_cmp y.0.now x.now) names r → IsSearchInRange r (length names) → Some i ≡ result_ok r → (a : ℕ) × (a < length names) × ((d : Name) → ((get_or names a d).0.now ≡ x.now) × ((get_or names a d).1 ≡ (get_or names i u).1))
+      go (Ok j) p h e =
+          let same : i ≡ j = cc in
+          (j, h, λ d. (lex_equal (get_or names j d).0.now x.now (p d), ap (λ (y : Name). y.1) (get_or_default names j d u h) ∙ ap (λ k. (get_or names k u).1) (sym same)))
+      go (Err j) p h e = absurd (let z : ◌≡◌ {A = ℕ} 0 1 = cc in omega arith)
 
 -- The rules
 
@@ -133,7 +120,7 @@ cards_in names = map (λ e. e.1) names
 key_is : (ps : List Placed) (names : List Name) → IndexOf ps names → (a : ℕ) (d : Name) → a < length names → key ps (get_or (cards_in names) a 0) ≡ (get_or names a d).0.now
 key_is ps names i a d h = ap (key ps) (get_or-map (λ (e : Name). e.1) names a d 0 h) ∙ ap name_of (All-get_or (λ (e : Name). (e.1 < length (others ps)) × ((card_line ps e.1).identifier ≡ Some e.0.now)) names a d h i.each).1
 
-nobody : Name
+abbrev pub nobody : Name
 nobody = (record { ref_ptr = (0, 0); now = [] }, 0)
 
 module _ (room : ℕ) (ps : List Placed) (names : List Name) (i : IndexOf ps names) (kept : RulesKept 11 room ps) where
@@ -160,9 +147,9 @@ module _ (room : ℕ) (ps : List Placed) (names : List Name) (i : IndexOf ps nam
   pub names_aimed : (o : Option ℕ) → CardsNoted (λ k. Keeps13 (lines_of ps) (place_of ps k)) (length (others ps)) o → Noted (LineKeeps aimed room ps) ps (card_spot ps o)
   names_aimed o h = aimed_noted ByteLess byte_strict room ps kept (cards_in names) i.index o h
 
--- a part from the start
-pub from_start : {X : Type 0} (n : ℕ) (xs : List X) → take (n - 0) xs ≡ take n xs
-from_start n xs = ap (λ k. take k xs) (let z : n - 0 ≡ n = omega arith in z)
+-- cards for which there is room
+pub cut_all : {X : Type 0} (n room : ℕ) (xs : List X) → n ≡ min (length xs) room → length xs ≤ room → take n xs ≡ xs
+cut_all n room xs e h = take_all n xs (omega arith)
 
 -- The card that a pointer names
 
@@ -185,3 +172,25 @@ the_target ps names l x k i e (a, h, there) =
 pub target_by : (file : List ℕ) (c : Card) (names : List Name) (x : List ℕ) (r : Option ℕ) → ((l : Line) → CardShows file c l → l.value ≡ pointer x) → FindsName names x r → TargetOf file c names r
 target_by file c names x None is f ps l s i = no_target ps names l x i (is l s) (f i.order)
 target_by file c names x (Some k) is f ps l s i = the_target ps names l x k i (is l s) f
+
+-- Cards whose pointers name none
+
+module _ (file : List ℕ) (c : Card) (names : List Name) where
+  -- its pointer names a card, or there is none
+  pub lost_by : (o : Option (Bor (List ℕ))) (r : Bool) → ShowsPointer file c o → MatchOption o (r ≡ false) (λ p. (q : Option ℕ) × FindsName names p.now q × (r ≡ is_none q)) → IsLost file c names r
+  lost_by None r shows e room ps k s i kept = subst (λ b. MatchBool b (Keeps13 (lines_of ps) (place_of ps k) → ⊥) (Keeps13 (lines_of ps) (place_of ps k))) (sym e) (no_name room ps names i kept k (shows (card_line ps k) s))
+  lost_by (Some p) r shows (None, f, e) room ps k s i kept = subst (λ b. MatchBool b (Keeps13 (lines_of ps) (place_of ps k) → ⊥) (Keeps13 (lines_of ps) (place_of ps k))) (sym e) (name_absent room ps names i kept k p.now (shows (card_line ps k) s) (f i.order))
+  lost_by (Some p) r shows (Some j, (a, h, f), e) room ps k s i kept = subst (λ b. MatchBool b (Keeps13 (lines_of ps) (place_of ps k) → ⊥) (Keeps13 (lines_of ps) (place_of ps k))) (sym e) (name_there room ps names i kept k a p.now (shows (card_line ps k) s) h (λ d. (f d).0))
+
+  pub lost_told : (r : Bool) → (b : Bool) × IsLost file c names b × (r ≡ b) → IsLost file c names r
+  lost_told r (b, lost, e) = subst (IsLost file c names) (sym e) lost
+
+module _ (file : List ℕ) (cards : List Card) (names : List Name) where
+  -- the first card that is lost
+  pub first_lost : (r : Option ℕ) → MatchOption r (AllWithin (λ c. IsLost file c names false) cards 0 (length cards)) (λ k. (k < length cards) × HoldsAt (λ c. IsLost file c names true) cards k × AllWithin (λ c. IsLost file c names false) cards 0 k) → FindsLost file cards names r
+  first_lost None all room ps s i kept = λ k h. let low : k < length cards = let many = s.many in omega arith in all k blank (omega arith) low room ps k (s.each k blank low) i kept
+  first_lost (Some k) found room ps s i kept = let (low, here, before) = found in record {
+    within = let many = s.many in omega arith;
+    breaks = here blank room ps k (s.each k blank low) i kept;
+    before = λ j h. before j blank (omega arith) h room ps j (s.each j blank (omega arith)) i kept;
+  }

@@ -1,5 +1,5 @@
 -- The index of a drawer's identifiers, and what is found in it. Assumes nothing.
-use Rattle.std.specs.Prelude.{◌≡◌, ℕ, ◌+◌, ◌<◌, ◌≤◌, Bool, List, map, length, get_or, take, Some, None, Ok, Err, MatchBool, Option, Result, MatchOption, ◌≢◌, slice_index_or, slice_set}
+use Rattle.std.specs.Prelude.{◌≡◌, ℕ, ◌<◌, ◌≤◌, Bool, List, map, length, get_or, take, Some, None, Ok, Err, MatchBool, Option, Result, MatchOption, ◌≢◌, slice_index_or}
 use Rattle.std.specs.declared.cmp.Ordering.TheVariants.{Less}
 use Rattle.std.specs.Borrow.{Bor}
 use Rattle.std.specs.Cmp.Lexicographic.{slice_cmp}
@@ -16,8 +16,6 @@ use Rattle.model.specs.Refusals.{lines_of, byte_at, others, apart, aimed, Keeps1
 use Rattle.model.specs.LineTurns.{Noted, RulesKept}
 use Rattle.model.specs.Index.{place_of, card_line, card_spot, CardsNoted, Indexed, LeastRepeat}
 use Rattle.model.proofs.Sorting.{Collected}
-use Rattle.lines.specs.declared.line.Payload.{Payload}
-use Rattle.lines.specs.Shown.{value_of}
 use Rattle.naming.specs.declared.NameFault.{NameFault}
 use Rattle.naming.specs.declared.NameFault.TheVariants.{Repeated, Lost}
 
@@ -51,12 +49,6 @@ ShowsName file c r = (l : Line) → CardShows file c l → option_map (λ (p : B
 abbrev pub ShowsPointer : List ℕ → Card → Option (Bor (List ℕ)) → Type 0
 ShowsPointer file c r = (l : Line) → CardShows file c l → MatchOption r ((x : List ℕ) → l.value ≢ pointer x) (λ p. l.value ≡ pointer p.now)
 
-abbrev pub InPayload : Payload → Option (Bor (List ℕ)) → Type 0
-InPayload p r = MatchOption r ((x : List ℕ) → value_of p ≢ pointer x) (λ x. value_of p ≡ pointer x.now)
-
-abbrev pub PointerAt : List ℕ → ℕ → Option (Bor (List ℕ)) → Type 0
-PointerAt file byte r = (ps : List Placed) (i : ℕ) → Lined file ps → i < length ps → byte_at ps i ≡ byte → MatchOption r ((x : List ℕ) → (at (lines_of ps) i).value ≢ pointer x) (λ p. (at (lines_of ps) i).value ≡ pointer p.now)
-
 -- The index
 
 -- an identifier and the card that has it
@@ -79,18 +71,14 @@ pub record IndexOf (ps : List Placed) (names : List Name) : Type 0 where
   pub each : AllByRecursion (Names ps) names
   pub index : Indexed ByteLess ps (map (λ e. e.1) names)
 
--- they stand at the front of a table, in any order, or in that of the index
+-- they stand at the front of a table, in any order
 pub record Collects (file : List ℕ) (cards : List Card) (n : ℕ) (out : List Name) : Type 0 where
   pub within : n ≤ length out
   pub collected : (ps : List Placed) → CardsShow file cards ps → Collected (λ (e : Name). e.0.now) (λ (e : Name). e.1) ps (length (others ps)) (take n out)
 
-pub record Indexes (file : List ℕ) (cards : List Card) (n : ℕ) (out : List Name) : Type 0 where
-  pub within : n ≤ length out
-  pub index : (ps : List Placed) → CardsShow file cards ps → IndexOf ps (take n out)
-
--- one card more
-abbrev pub Notes : Option (Bor (List ℕ)) → ℕ → ℕ → List Name → ℕ → List Name → Type 0
-Notes i n k names r out = MatchOption i ((r ≡ n) × (out ≡ names)) (λ p. (r ≡ n + 1) × (out ≡ slice_set names n (p, k)))
+-- names are the index of the lines that the cards show
+abbrev pub Indexes : List ℕ → List Card → List Name → Type 0
+Indexes file cards names = (ps : List Placed) → CardsShow file cards ps → IndexOf ps names
 
 abbrev pub LeastName : List Name → ℕ → Option ℕ → Type 0
 LeastName names n r = (d : Name) → LeastRepeat (λ a. (get_or names a d).0.now) (λ a. (get_or names a d).1) n r
@@ -117,10 +105,11 @@ FindsLost file cards names r = (room : ℕ) (ps : List Placed) → CardsShow fil
 
 -- What the rules 12 and 13 find
 
-abbrev pub NamesFound : ℕ → List Placed → Result ℕ NameFault → List Name → Type 0
-NamesFound room ps (Ok n) out = Noted (LineKeeps apart room ps) ps None × Noted (LineKeeps aimed room ps) ps None × IndexOf ps (take n out)
-NamesFound room ps (Err (Repeated k)) out = Noted (LineKeeps apart room ps) ps (card_spot ps (Some k))
-NamesFound room ps (Err (Lost k)) out = Noted (LineKeeps apart room ps) ps None × Noted (LineKeeps aimed room ps) ps (card_spot ps (Some k))
+abbrev pub NamesFound : ℕ → List Placed → Result (Bor (List Name)) NameFault → Type 0
+NamesFound room ps (Ok names) = Noted (LineKeeps apart room ps) ps None × Noted (LineKeeps aimed room ps) ps None × IndexOf ps names.now
+NamesFound room ps (Err (Repeated k)) = Noted (LineKeeps apart room ps) ps (card_spot ps (Some k))
+NamesFound room ps (Err (Lost k)) = Noted (LineKeeps apart room ps) ps None × Noted (LineKeeps aimed room ps) ps (card_spot ps (Some k))
 
-abbrev pub NamesFit : List ℕ → List Card → List Name → Result ℕ NameFault → List Name → Type 0
-NamesFit file cards table r out = (room : ℕ) (ps : List Placed) → CardsShow file cards ps → RulesKept 11 room ps → length cards ≤ length table → NamesFound room ps r out
+-- of cards for which a table has entries
+abbrev pub NamesFit : List ℕ → List Card → ℕ → Result (Bor (List Name)) NameFault → Type 0
+NamesFit file cards entries r = (room : ℕ) (ps : List Placed) → CardsShow file cards ps → RulesKept 11 room ps → length cards ≤ entries → NamesFound room ps r

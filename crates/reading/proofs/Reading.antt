@@ -1,5 +1,5 @@
 -- What the parts of a reading find, and so its answer. Assumes nothing.
-use Rattle.std.proofs.Common.{◌≡◌, ℕ, ◌+◌, ◌-◌, ◌<◌, ◌≤◌, min, List, [], ◌++◌, length, get_or, take, Some, None, Ok, Err, Result, sym, refl, ap, ◌∙◌, subst, inl, inr, arith, length-take}
+use Rattle.std.proofs.Common.{◌≡◌, ℕ, ◌+◌, ◌<◌, ◌≤◌, min, List, [], ◌++◌, length, get_or, take, Some, None, Option, Ok, Err, Result, sym, refl, ap, ◌∙◌, subst, inl, inr, arith, length-take}
 use lib.ListN.{length-map}
 use Rattle.std.proofs.ByRecursion.{All-get_or, All-weaker}
 use Rattle.std.proofs.lemmas.List.{get_or_past, get_or-map, take_all, take_at}
@@ -16,7 +16,8 @@ use Rattle.model.specs.Edits.{no_entry, body}
 use Rattle.model.specs.Refusals.{Refuses, lined, fault, lines_of, byte_at, others, Keeps11, Keeps12, Keeps13, First, LineRule, levels, first, last, steps, named, continued, room, apart, aimed, LineKeeps, LinesKeep}
 use Rattle.model.specs.LineTurns.{spot_of, Noted, RulesKept}
 use Rattle.model.specs.Index.{place_of, card_line, card_spot}
-use Rattle.model.specs.Positions.{FindsNone}
+use Rattle.model.specs.Positions.{FindsNone, Told}
+use Rattle.model.proofs.Drawers.{files_long}
 use Rattle.model.proofs.Options.{some_same}
 use Rattle.model.proofs.Noting.{kept_next, kept_all, refusal}
 use Rattle.model.proofs.Answering.{Read, kept_read, others_within, room_kept as kept_few, accepted, declined}
@@ -35,6 +36,8 @@ use Rattle.judging.specs.declared.finding.Rule.{Rule}
 use Rattle.judging.specs.declared.finding.Rule.TheVariants.{Known, Taken, Aimed, Single, Needed, Filled}
 use Rattle.reading.specs.declared.entered.Entered.{Entered}
 use Rattle.reading.specs.declared.fault.ReadFault.{ReadFault}
+use Rattle.reading.specs.declared.fault.ReadFault.TheVariants.{NoCard}
+use Rattle.std.specs.Result.{MatchResult}
 use Rattle.reading.specs.Entered.{Names, Entering}
 use Rattle.reading.specs.Faults.{read_fault}
 use Rattle.reading.specs.Read.{PlacedAt, fault_by, FoundBy, JudgesNamed, Judges, Filed, TellsNames}
@@ -47,10 +50,6 @@ take_min n xs = elim (cases_lt (length xs) n) [
   | inl h ↦ ap (λ k. take k xs) (let e : min n (length xs) ≡ length xs = omega arith in e) ∙ take_all (length xs) xs (omega arith) ∙ sym (take_all n xs (omega arith))
   | inr h ↦ ap (λ k. take k xs) (let e : min n (length xs) ≡ n = omega arith in e)
 ]
-
--- the part that a range cuts off at the front
-pub part : {X : Type 0} (k n : ℕ) (xs : List X) → k ≡ min n (length xs) → take (k - 0) xs ≡ take (min n (length xs)) xs
-part k n xs e = ap (λ j. take j xs) (let z : k - 0 ≡ min n (length xs) = omega arith in z)
 
 -- what a fault of each rule tells
 pub told_by : (r : Rule) (p : Place) → read_fault (fault_by r p) ≡ record { number = rule_number r; line = p.line; byte = p.byte; missing = missing_type r }
@@ -163,6 +162,12 @@ module _ (file : List ℕ) (ps : List Placed) (rooms : ℕ) (passes : Passes fil
         let head = (passes.ordered.first 0 (let s = passes.ordered.some in omega arith)).0 refl in
         absurd (let z : nothing ≡ pointer x = ap (λ (l : Line). l.value) (sym head) ∙ e in let y : ◌≡◌ {A = ℕ} 0 1 = cc in omega arith)
 
+    pub repeated_within : (k : ℕ) → Noted (LineKeeps apart rooms ps) ps (card_spot ps (Some k)) → k < length cards
+    repeated_within k n = let e = many in let low = not_first (LineKeeps apart rooms ps) k first_apart n in omega arith
+
+    pub lost_within : (k : ℕ) → Noted (LineKeeps aimed rooms ps) ps (card_spot ps (Some k)) → k < length cards
+    lost_within k n = let e = many in let low = not_first (LineKeeps aimed rooms ps) k first_aimed n in omega arith
+
     pub repeated : (m : Meaning) (k : ℕ) (p : Place) → Noted (LineKeeps apart rooms ps) ps (card_spot ps (Some k)) → PlacedAt file cards k p → Refuses m file rooms (fault 12 p.line p.byte)
     repeated m k p n at =
         let is = there k p (not_first (LineKeeps apart rooms ps) k first_apart n) at in
@@ -207,49 +212,59 @@ module _ (file : List ℕ) (ps : List Placed) (rooms : ℕ) (passes : Passes fil
           subst (Refuses m file rooms) (sym (ap read_fault b.is ∙ told_by b.finding.rule b.at))
           (refuses_told m file rooms ps reads (rule_number b.finding.rule) k b.at.line b.at.byte (missing_type b.finding.rule) b.told (ap (λ (x : Place). x.line) is) (ap (λ (x : Place). x.byte) is))
 
+entered : (s : Entered) (file : List ℕ) (cards : List Card) (d : Dataset) → s.file.now ≡ file → s.cards.now ≡ cards → Entering file cards s.names.now d → Entering s.file.now s.cards.now s.names.now d
+entered s file cards d ef ec e = subst (λ x. Entering x s.cards.now s.names.now d) (sym ef) (subst (λ x. Entering file x s.names.now d) (sym ec) e)
+
+-- what is found is found of a card
+pub found_within : (m : Meaning) (s : Entered) (d : Dataset) → Entering s.file.now s.cards.now s.names.now d → (n k : ℕ) (missing : Option ℕ) → Told m (body (entries d)) n k missing → k < length s.cards.now
+found_within m s d e n k missing t = let low = told_within m (body (entries d)) n k missing (dataset_sound plain d e.is).some t in let long = files_long e.placed s.cards.now (entries d) e.files in omega (arith, length_body (entries d))
+
 -- cards that break one of the identifiers
-pub names_refused : (m : Meaning) (file : List ℕ) (cards : List Card) (out : List Name) (fault : NameFault) (r : ReadFault) → ((room : ℕ) (ps : List Placed) → CardsShow file cards ps → RulesKept 11 room ps → NamesFound room ps (Err fault) out) → TellsNames file cards fault r → Judges m file cards (Err r)
-names_refused m file cards out (name.Repeated k) r fit (p, is, at) = λ ps rooms passes are kept.
+pub names_refused : (m : Meaning) (file : List ℕ) (cards : List Card) (fault : NameFault) (r : Option ReadFault) → ((room : ℕ) (ps : List Placed) → CardsShow file cards ps → RulesKept 11 room ps → NamesFound room ps (Err fault)) → TellsNames file cards fault r → Judges m file cards r
+names_refused m file cards (name.Repeated k) None fit past = λ ps rooms passes are kept.
+    let low = repeated_within file ps rooms passes cards are kept k (fit rooms ps (shows file ps rooms passes cards are kept) (ordered_kept file ps rooms passes)) in absurd (omega arith)
+names_refused m file cards (name.Repeated k) (Some r) fit (p, is, at) = λ ps rooms passes are kept.
     subst (λ f. Refuses m file rooms (read_fault f)) (sym is) (repeated file ps rooms passes cards are kept m k p (fit rooms ps (shows file ps rooms passes cards are kept) (ordered_kept file ps rooms passes)) at)
-names_refused m file cards out (name.Lost k) r fit (p, is, at) = λ ps rooms passes are kept.
+names_refused m file cards (name.Lost k) None fit past = λ ps rooms passes are kept.
+    let low = lost_within file ps rooms passes cards are kept k (fit rooms ps (shows file ps rooms passes cards are kept) (ordered_kept file ps rooms passes)).1 in absurd (omega arith)
+names_refused m file cards (name.Lost k) (Some r) fit (p, is, at) = λ ps rooms passes are kept.
     let n = fit rooms ps (shows file ps rooms passes cards are kept) (ordered_kept file ps rooms passes) in
     subst (λ f. Refuses m file rooms (read_fault f)) (sym is) (lost file ps rooms passes cards are kept m k p n.0 n.1 at)
 
 -- cards that keep the rules of the identifiers, judged
-pub judged : (m : Meaning) (file : List ℕ) (cards : List Card) (s : Entered) (out : List Name) (n : ℕ) (r : Result (Unit {0}) ReadFault) → s.file.now ≡ file → s.cards.now ≡ cards → s.names.now ≡ take n out → ((room : ℕ) (ps : List Placed) → CardsShow file cards ps → RulesKept 11 room ps → Noted (LineKeeps apart room ps) ps None × Noted (LineKeeps aimed room ps) ps None × IndexOf ps (take n out)) → JudgesNamed m s r → Judges m file cards r
-judged m file cards s out n (Ok u) ef ec en fit j = λ ps rooms passes are kept.
+pub judged : (m : Meaning) (file : List ℕ) (cards : List Card) (s : Entered) (r : Option ReadFault) → s.file.now ≡ file → s.cards.now ≡ cards → ((room : ℕ) (ps : List Placed) → CardsShow file cards ps → RulesKept 11 room ps → Noted (LineKeeps apart room ps) ps None × Noted (LineKeeps aimed room ps) ps None × IndexOf ps s.names.now) → JudgesNamed m s r → Judges m file cards r
+judged m file cards s None ef ec fit j = λ ps rooms passes are kept.
     let (a, b, index) = fit rooms ps (shows file ps rooms passes cards are kept) (ordered_kept file ps rooms passes) in
-    let names = take n out in
-    let d = (reads file ps rooms passes cards are kept names a b index).dataset in
-    let e = entering file ps rooms passes cards are kept names a b index in
-    let mine : Entering s.file.now s.cards.now s.names.now d = subst (λ x. Entering x s.cards.now s.names.now d) (sym ef) (subst (λ x. Entering file x s.names.now d) (sym ec) (subst (λ x. Entering file cards x d) (sym en) e)) in
-    (reads file ps rooms passes cards are kept names a b index, belongs file ps rooms passes cards are kept names a b index m (j d mine (few file ps rooms passes cards are kept names a b index)))
-judged m file cards s out n (Err f) ef ec en fit j = λ ps rooms passes are kept.
+    let d = (reads file ps rooms passes cards are kept s.names.now a b index).dataset in
+    (reads file ps rooms passes cards are kept s.names.now a b index, belongs file ps rooms passes cards are kept s.names.now a b index m (j d (entered s file cards d ef ec (entering file ps rooms passes cards are kept s.names.now a b index)) (few file ps rooms passes cards are kept s.names.now a b index)))
+judged m file cards s (Some f) ef ec fit j = λ ps rooms passes are kept.
     let (a, b, index) = fit rooms ps (shows file ps rooms passes cards are kept) (ordered_kept file ps rooms passes) in
-    let names = take n out in
-    let d = (reads file ps rooms passes cards are kept names a b index).dataset in
-    let e = entering file ps rooms passes cards are kept names a b index in
-    let mine : Entering s.file.now s.cards.now s.names.now d = subst (λ x. Entering x s.cards.now s.names.now d) (sym ef) (subst (λ x. Entering file x s.names.now d) (sym ec) (subst (λ x. Entering file cards x d) (sym en) e)) in
-    found file ps rooms passes cards are kept names a b index m s f ef ec (j d mine (few file ps rooms passes cards are kept names a b index))
+    let d = (reads file ps rooms passes cards are kept s.names.now a b index).dataset in
+    found file ps rooms passes cards are kept s.names.now a b index m s f ef ec (j d (entered s file cards d ef ec (entering file ps rooms passes cards are kept s.names.now a b index)) (few file ps rooms passes cards are kept s.names.now a b index))
+
+-- a drawer that was filled, or has too few cards
+module _ (file : List ℕ) (rooms : ℕ) (out : List Card) where
+  pub fill_granted : (r : Result ℕ Place) (n : ℕ) → MatchResult r (λ x. ◌≡◌ {A = Result ℕ ReadFault} (Ok n) (Ok x)) (λ p. ⊥) → Fill.Fills file rooms r out → Fill.Fills file rooms (Ok n) out
+  fill_granted (Ok x) n e f = subst (λ k. Fill.Fills file rooms (Ok k) out) (let z : x ≡ n = cc in z) f
+  fill_granted (Err p) n e f = elim e [ ]
+
+  pub fill_refused : (m : Meaning) (r : Result ℕ Place) (f : ReadFault) → MatchResult r (λ x. ⊥) (λ p. f ≡ NoCard p) → Fill.Fills file rooms r out → (ps : List Placed) → Passes file ps → Refuses m file rooms (read_fault f)
+  fill_refused m (Ok n) f e fills ps passes = elim e [ ]
+  fill_refused m (Err p) f e (b, noted) ps passes = subst (λ g. Refuses m file rooms (read_fault g)) (sym e) (no_card file ps rooms passes m p (noted ps passes))
 
 -- cards that were filled, judged
-pub filled_judged : (m : Meaning) (file : List ℕ) (rooms n : ℕ) (out : List Card) (ps : List Placed) → Passes file ps → Fill.Filled rooms n out ps → (cards : List Card) → cards ≡ take (min n (length out)) out → (u : Unit {0}) → Judges m file cards (Ok u) → Filed m file rooms n out
-filled_judged m file rooms n out ps passes f cards is u j =
-    let (r, belongs) = j ps rooms passes (cards_are ps rooms n out f cards is) f.kept in
-    record { placed = ps; read = r; belongs = belongs; filled = f }
-  where
-    cards_are : (ps : List Placed) (rooms n : ℕ) (out : List Card) → Fill.Filled rooms n out ps → (cards : List Card) → cards ≡ take (min n (length out)) out → cards ≡ cards_of ps
-    cards_are ps rooms n out f cards is = is ∙ take_min n out ∙ ap (take n) f.are ∙ take_at (cards_of ps) f.blanks n (length-map (others ps) (λ i. card_at (byte_at ps i)) ∙ sym f.counted)
+module _ (m : Meaning) (file : List ℕ) (rooms n : ℕ) (out : List Card) (ps : List Placed) (passes : Passes file ps) (f : Fill.Filled rooms n out ps) (k : ℕ) (is : k ≡ min n (length out)) where
+  cards_are : take k out ≡ cards_of ps
+  cards_are = ap (λ j. take j out) is ∙ take_min n out ∙ ap (take n) f.are ∙ take_at (cards_of ps) f.blanks n (length-map (others ps) (λ i. card_at (byte_at ps i)) ∙ sym f.counted)
 
-pub refused_judged : (m : Meaning) (file : List ℕ) (rooms n : ℕ) (out : List Card) (ps : List Placed) → Passes file ps → Fill.Filled rooms n out ps → (cards : List Card) → cards ≡ take (min n (length out)) out → (g : ReadFault) → Judges m file cards (Err g) → Refuses m file rooms (read_fault g)
-refused_judged m file rooms n out ps passes f cards is g j = j ps rooms passes (is ∙ take_min n out ∙ ap (take n) f.are ∙ take_at (cards_of ps) f.blanks n (length-map (others ps) (λ i. card_at (byte_at ps i)) ∙ sym f.counted)) f.kept
+  pub filled_judged : Judges m file (take k out) None → Filed m file rooms n out
+  filled_judged j = let (r, belongs) = j ps rooms passes cards_are f.kept in record { placed = ps; read = r; belongs = belongs; filled = f }
 
-pub fits_few : (rooms n : ℕ) (out : List Card) (ps : List Placed) → Fill.Filled rooms n out ps → (cards : List Card) → cards ≡ take (min n (length out)) out → length cards ≤ 65535
-fits_few rooms n out ps f cards is =
-    let low = kept_few rooms ps f.kept in
-    let long : length cards ≡ min (min n (length out)) (length out) = ap length is ∙ length-take (min n (length out)) out in
-    let c = f.counted in
-    omega arith
+  pub refused_judged : (g : ReadFault) → Judges m file (take k out) (Some g) → Refuses m file rooms (read_fault g)
+  refused_judged g j = j ps rooms passes cards_are f.kept
+
+  pub fits_few : length (take k out) ≤ 65535
+  fits_few = let low = kept_few rooms ps f.kept in let c = f.counted in omega (arith, length-take k out)
 
 -- The answers
 

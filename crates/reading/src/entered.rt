@@ -6,14 +6,14 @@ use judging::Entries;
 use kinds::Content;
 use looking::{content_of, level_of, tag_of};
 use model::Card;
-use naming::find;
+use naming::{Named, find};
 
 // The cards of a drawer before its blank ones, the file that they name lines of, and the index of their identifiers.
 #[derive(Clone, Copy)]
 pub struct Entered<'f, 'c, 'n> {
     pub file: &'f [u8],
     pub cards: &'c [Card],
-    pub names: &'n [(&'f [u8], usize)],
+    pub names: &'n [Named<'f>],
 }
 
 impl<'f, 'c, 'n> Entries for Entered<'f, 'c, 'n> {
@@ -24,36 +24,30 @@ impl<'f, 'c, 'n> Entries for Entered<'f, 'c, 'n> {
     }
 
     fn level(&self, i: usize) -> u8 {
-        if i < self.cards.len() {
-            level_of(self.file, self.cards[i])
-        } else {
-            0
+        match self.cards.get(i) {
+            Some(card) => level_of(self.file, *card),
+            None => 0,
         }
     }
 
     fn tag(&self, i: usize) -> &[u8] {
-        if i < self.cards.len() {
-            tag_of(self.file, self.cards[i])
-        } else {
-            b""
+        match self.cards.get(i) {
+            Some(card) => tag_of(self.file, *card),
+            None => b"",
         }
     }
 
     fn content(&self, i: usize) -> Content<'_> {
-        if i < self.cards.len() {
-            content_of(self.file, self.cards[i])
-        } else {
-            Content::Nothing
+        match self.cards.get(i) {
+            Some(card) => content_of(self.file, *card),
+            None => Content::Nothing,
         }
     }
 
     fn target(&self, i: usize) -> Option<usize> {
         match self.content(i) {
             Content::Pointer(pointer) => find(self.names, pointer),
-            Content::Nothing => None,
-            Content::Void => None,
-            Content::Line(_) => None,
-            Content::Lines => None,
+            Content::Nothing | Content::Void | Content::Line(_) | Content::Lines => None,
         }
     }
 }

@@ -1,5 +1,5 @@
 // Whether a tree belongs to a book.
-ghost use Rattle.std.specs.Prelude.{◌≤◌, length, Decides};
+ghost use Rattle.std.specs.Prelude.{Decides};
 ghost use Rattle.model.specs.Datasets.{Dataset};
 ghost use Rattle.model.specs.Rules.{Belongs};
 ghost use Rattle.removing.specs.Belonging.{Tells};
@@ -18,22 +18,11 @@ pub fn keeps_rules<B: Book>(entered: Entered<'_, '_, '_>, book: &B) -> bool
     judge(book, &entered).is_none()
 }
 
-fn belongs_with<'a, B: Book>(
-    file: &'a [u8],
-    drawer: &[Card],
-    book: &B,
-    table: &mut [(&'a [u8], usize)],
-) -> Option<bool>
-    ensures { 65535 ≤ length table.old → Tells (B.meaning book.now) file.now drawer.now result }
-{
-    let entered = enter(file, drawer, table)?;
-    Some(keeps_rules(entered, book))
-}
-
 // Whether the tree that a drawer holds belongs to the book; none where it holds no tree of the file.
 pub fn belongs<B: Book>(file: &[u8], drawer: &[Card], book: &B) -> Option<bool>
     ensures tells { Tells (B.meaning book.now) file.now drawer.now result }
 {
-    let mut table = [(&file[0..0], 0); MOST];
-    belongs_with(file, drawer, book, &mut table)
+    let mut table = [(&file[..0], 0); MOST];
+    let entered = enter(file, drawer, &mut table)?;
+    Some(keeps_rules(entered, book))
 }

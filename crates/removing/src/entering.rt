@@ -4,6 +4,7 @@ ghost use Rattle.removing.specs.Entering.{Enters};
 
 use holding::held;
 use model::Card;
+use naming::Named;
 use reading::Entered;
 
 // The cards of the tree that a drawer holds, if it holds one. The table is for their identifiers, and has to be as long
@@ -11,15 +12,14 @@ use reading::Entered;
 pub fn enter<'f, 'c, 'n>(
     file: &'f [u8],
     drawer: &'c [Card],
-    table: &'n mut [(&'f [u8], usize)],
+    table: &'n mut [Named<'f>],
 ) -> Option<Entered<'f, 'c, 'n>>
     ensures { 65535 ≤ length table.old → Enters file.now drawer.now result }
 {
     let kept = held(file, drawer, table)?;
-    let index = &table[..];
     Some(Entered {
         file,
-        cards: &drawer[0..kept.cards.min(drawer.len())],
-        names: &index[0..kept.names.min(index.len())],
+        cards: kept.cards,
+        names: kept.names,
     })
 }

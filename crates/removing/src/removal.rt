@@ -1,5 +1,5 @@
 // The removal of a structure from the tree that a drawer holds.
-ghost use Rattle.std.specs.Prelude.{◌≡◌, ◌≤◌, length};
+ghost use Rattle.std.specs.Prelude.{◌≡◌};
 ghost use Rattle.model.specs.Datasets.{Dataset};
 ghost use Rattle.model.specs.Calls.{Event, Removing};
 ghost use Rattle.removing.specs.Entering.{EnteredAs};
@@ -27,7 +27,7 @@ fn plan_entered<B: Book>(
         return Err(Refusal::Foreign);
     }
     // the header's card is the first, and the trailer's is not counted
-    if card == 0 || card >= entered.count() {
+    if !(1..entered.count()).contains(&card) {
         return Err(Refusal::Fixed);
     }
     match edit(book, &entered, card) {
@@ -36,26 +36,12 @@ fn plan_entered<B: Book>(
     }
 }
 
-fn plan_with<'a, B: Book>(
-    file: &'a [u8],
-    drawer: &[Card],
-    book: &B,
-    card: usize,
-    table: &mut [(&'a [u8], usize)],
-) -> Result<Edit, Refusal>
-    ensures { 65535 ≤ length table.old → Plans (B.meaning book.now) file.now drawer.now card result }
-{
-    match enter(file, drawer, table) {
-        Some(entered) => plan_entered(entered, book, card),
-        None => Err(Refusal::Unheld),
-    }
-}
-
 fn plan<B: Book>(file: &[u8], drawer: &[Card], book: &B, card: usize) -> Result<Edit, Refusal>
     ensures { Plans (B.meaning book.now) file.now drawer.now card result }
 {
-    let mut table = [(&file[0..0], 0); MOST];
-    plan_with(file, drawer, book, card, &mut table)
+    let mut table = [(&file[..0], 0); MOST];
+    let entered = enter(file, drawer, &mut table).ok_or(Refusal::Unheld)?;
+    plan_entered(entered, book, card)
 }
 
 // Removes the structure of a card, with all below it, from the tree that a drawer holds, and answers how many cards went:

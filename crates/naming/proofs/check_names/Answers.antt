@@ -1,28 +1,23 @@
-use Rattle.std.proofs.Common.{◌-◌, take, Some, None, sym, subst, arith}
-use Rattle.naming.specs.Naming.{IndexOf}
-use Rattle.naming.proofs.Indexing.{from_start, names_apart, names_aimed}
+use Rattle.std.proofs.Common.{Some, None, sym, subst}
+use Rattle.naming.specs.Naming.{CardsShow}
+use Rattle.naming.proofs.Indexing.{cut_all, names_apart, names_aimed}
 use Rattle.naming.proofs.check_names.Goals as goal
-
-pub returns-then-cards-table : goal.returns-then-cards-table
-returns-then-cards-table c room ps s kept fit = absurd (let over = c.if-cards-table.true in omega arith)
 
 pub returns-in-Some : goal.returns-in-Some
 returns-in-Some c room ps s kept fit =
-    let n = c.index-count.result in
-    let table = c.index-count.new.table in
-    let i = subst (IndexOf ps) (sym (from_start n table)) (c.index-count.ensures.index ps s) in
-    names_apart room ps (take (n - 0) table) i kept (Some c.in-Some.card) c.in-Some.ensures
+    let cut = subst (λ cards. CardsShow c.args.file.now cards ps) (sym (cut_all c.min.result _ c.args.cards.now c.min.ensures fit)) s in
+    names_apart room ps c.index-names.result.now (c.index-names.ensures ps cut) kept (Some c.in-Some.card) c.in-Some.ensures
 
 pub returns-in-Some-lost : goal.returns-in-Some-lost
 returns-in-Some-lost c room ps s kept fit =
-    let n = c.index-count.result in
-    let table = c.index-count.new.table in
-    let i = subst (IndexOf ps) (sym (from_start n table)) (c.index-count.ensures.index ps s) in
-    (names_apart room ps (take (n - 0) table) i kept None c.in_default.ensures, names_aimed room ps (take (n - 0) table) i kept (Some c.in-Some-lost.card) (c.in-Some-lost.ensures room ps s i kept))
+    let names = c.index-names.result.now in
+    let cut = subst (λ cards. CardsShow c.args.file.now cards ps) (sym (cut_all c.min.result _ c.args.cards.now c.min.ensures fit)) s in
+    let i = c.index-names.ensures ps cut in
+    (names_apart room ps names i kept None c.in_default.ensures, names_aimed room ps names i kept (Some c.in-Some-lost.card) (c.in-Some-lost.ensures room ps cut i kept))
 
 pub returns : goal.returns
 returns c room ps s kept fit =
-    let n = c.index-count.result in
-    let table = c.index-count.new.table in
-    let i = subst (IndexOf ps) (sym (from_start n table)) (c.index-count.ensures.index ps s) in
-    (names_apart room ps (take (n - 0) table) i kept None c.in_default.ensures, names_aimed room ps (take (n - 0) table) i kept None (c.in_default-lost.ensures room ps s i kept), c.index-count.ensures.index ps s)
+    let names = c.index-names.result.now in
+    let cut = subst (λ cards. CardsShow c.args.file.now cards ps) (sym (cut_all c.min.result _ c.args.cards.now c.min.ensures fit)) s in
+    let i = c.index-names.ensures ps cut in
+    (names_apart room ps names i kept None c.in_default.ensures, names_aimed room ps names i kept None (c.in_default-lost.ensures room ps cut i kept), i)

@@ -1,25 +1,24 @@
 use Rattle.std.proofs.Common.{◌≡◌, ◌<◌, length, take, ◌∙◌, subst, arith}
-use Rattle.naming.proofs.Indexing.{Gathered, gathered_none, gathered_more, noted_length}
+use Rattle.naming.proofs.Indexing.{Gathered, gathered_skip, gathered_more}
 use Rattle.naming.proofs.collect.Goals as goal
+use Rattle.naming.proofs.collect.Goals.{in-Some, in_default}
 
-pub loop-k-init : goal.loop-k-init
-loop-k-init c = (omega arith, λ ps s. gathered_none ps)
-
-pub loop-k-preserved : goal.loop-k-preserved
-loop-k-preserved c =
-    let inv = c.loop-k.invariant in
-    let low = noted_length c.shown_name.result c.loop-k.count c.loop-k.k c.loop-k.table c.note-count.result c.note-count.new.names c.note-count.ensures in
-    let fit : c.loop-k.count < length c.loop-k.table = let pre = c.requires in let lt = c.loop-k-test.true in let long = c.loop-k.auto.table in omega (arith, inv.0) in (
-      omega (arith, inv.0, low),
-      λ ps s. gathered_more ps c.shown_name.result c.loop-k.count c.loop-k.k c.loop-k.table c.note-count.result c.note-count.new.names fit c.note-count.ensures (c.shown_name.ensures _ (s.each c.loop-k.k _ c.loop-k-test.true)) (inv.1 ps s),
-    )
+pub loop-card-preserved : goal.loop-card-preserved
+loop-card-preserved c =
+    let inv = c.loop-card.invariant in
+    let fit : c.loop-card.count < length c.loop-card.table = let pre = c.requires in let lt = c.loop-card-test.true in let long = c.loop-card.auto.table in omega (arith, inv.0) in
+    elim c.match-shown_name.branch [
+      | in-Some w ↦ rw (w.count-is, w.table-is) (omega (arith, inv.0), λ ps s. gathered_more ps c.shown_name.result w.in-Some.name c.loop-card.count c.loop-card.card c.loop-card.table fit w.in-Some.is (c.shown_name.ensures _ (s.each c.loop-card.card _ c.loop-card-test.true)) (inv.1 ps s))
+      | in_default w ↦ rw (w.count-is, w.table-is) (omega (arith, inv.0), λ ps s. gathered_skip ps c.shown_name.result c.loop-card.card (take c.loop-card.count c.loop-card.table) w.in_default.is (c.shown_name.ensures _ (s.each c.loop-card.card _ c.loop-card-test.true)) (inv.1 ps s))
+    ]
 
 pub returns : goal.returns
 returns c =
-    let inv = c.loop-k.invariant in
-    let long = c.loop-k.auto.table in
+    let inv = c.loop-card.invariant in
+    let long = c.loop-card.auto.table in
     let pre = c.requires in
+    let all : c.loop-card.card ≡ length c.args.cards.now = omega arith in
     record {
       within = let low = inv.0 in omega arith;
-      collected = λ ps s. subst (λ n. Gathered ps n (take c.loop-k.count c.loop-k.table)) ((let all : c.loop-k.k ≡ length c.args.cards.now = omega arith in all) ∙ s.many) (inv.1 ps s);
+      collected = λ ps s. subst (λ n. Gathered ps n (take c.loop-card.count c.loop-card.table)) (all ∙ s.many) (inv.1 ps s);
     }

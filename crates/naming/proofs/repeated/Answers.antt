@@ -1,31 +1,17 @@
-use Rattle.std.proofs.Common.{◌≡◌, ℕ, ◌+◌, ◌-◌, ◌<◌, Bool, List, length, get_or, Decides, Option, sym, ap, ◌∙◌, subst, arith, Bor}
-use Rattle.std.proofs.lemmas.List.{get_or_default}
-use Rattle.model.specs.Index.{LeastRepeat, lesser}
-use Rattle.model.proofs.Index.{least_more}
-use Rattle.naming.specs.Naming.{LeastName}
+use Rattle.std.proofs.Common.{◌≡◌, ℕ, Some, None, Option, refl, ◌∙◌, rules, tests}
+use Rattle.std.specs.Option.{option_map}
+use Rattle.std.specs.Str.{bytes_eq}
+use Rattle.std.proofs.lemmas.Slice.Eq.{bytes_eq-Decides}
+use Rattle.std.proofs.lemmas.Iterator.{YieldsList-from_map}
+use Rattle.std.proofs.lemmas.Iterator.Consumers.{YieldsList-at, YieldsList-from_filter, min_from_yields_List}
+use Rattle.naming.specs.Naming.{Name}
+use Rattle.naming.proofs.Least.{windows_pairs, least_found}
+use Rattle.naming.proofs.Indexing.{nobody}
 use Rattle.naming.proofs.repeated.Goals as goal
-use Rattle.std.proofs.lemmas.Bool.Decides.{Decides-eqb}
-use Rattle.std.proofs.lemmas.Slice.Eq.{slice_eq-Decides}
 
-abbrev Entry : Type 0
-Entry = Bor (List ℕ) × ℕ
-
--- one turn, whatever an entry past the end would read as
-turn : (names : List Entry) (n : ℕ) (o p : Option ℕ) (b : Bool) (u v w : Entry) → 0 < n → n < length names → LeastName names n o → Decides b ((get_or names (n - 1) u).0.now ≡ (get_or names n v).0.now) → p ≡ lesser o b (get_or names n w).1 → LeastName names (n + 1) p
-turn names n o p b u v w some h l q e d =
-    let x : (get_or names (n - 1) u).0.now ≡ (get_or names (n - 1) d).0.now = ap (λ (f : Entry). f.0.now) (get_or_default names (n - 1) u d (omega arith)) in
-    let y : (get_or names n v).0.now ≡ (get_or names n d).0.now = ap (λ (f : Entry). f.0.now) (get_or_default names n v d h) in
-    let decides : Decides b ((get_or names (n - 1) d).0.now ≡ (get_or names n d).0.now) = (λ t. sym x ∙ q.0 t ∙ y, λ t. q.1 (x ∙ t ∙ sym y)) in
-    let r = least_more (λ a. (get_or names a d).0.now) (λ a. (get_or names a d).1) n o b some decides (l d) in
-    subst (LeastRepeat (λ a. (get_or names a d).0.now) (λ a. (get_or names a d).1) (n + 1)) (sym (e ∙ ap (λ (f : Entry). lesser o b f.1) (get_or_default names n w d h))) r
-
-pub loop-n-preserved : goal.loop-n-preserved
-loop-n-preserved c d =
-    let k = c.lesser-least.ensures in
-    turn c.args.names.now c.loop-n.n c.loop-n.least c.lesser-least.result c.eq-same.result _ _ _ (omega arith) c.loop-n-test.true c.loop-n.invariant (slice_eq-Decides Decides-eqb _ _ c.eq-same.result c.eq-same.ensures) k d
+itself : (o : Option ℕ) → o ≡ option_map (λ (x : ℕ). x) o
+itself None = refl
+itself (Some x) = refl
 
 pub returns : goal.returns
-returns c d =
-    let names = c.args.names.now in
-    let end : c.loop-n.n ≡ length names = omega arith in
-    subst (λ n. LeastRepeat (λ a. (get_or names a d).0.now) (λ a. (get_or names a d).1) n c.loop-n.least) end (c.loop-n.invariant d)
+returns c = least_found c.args.names.now (λ p. bytes_eq p.0.0.now p.1.0.now) (λ x y. bytes_eq-Decides x.0.now y.0.now) c.min.result (itself c.min.result ∙ min_from_yields_List {v = λ x. x} _ c.min.result c.min.ensures.ran (YieldsList-from_map _ (λ (p : Name × Name). p.1.1) (YieldsList-at c.map.ensures.source (YieldsList-from_filter _ (λ (p : Name × Name). bytes_eq p.0.0.now p.1.0.now) (YieldsList-at c.filter.ensures.source (windows_pairs nobody c.windows.result c.args.names.now c.windows.ensures.size c.windows.ensures.rest)) c.filter.ensures.closure (λ x b q k. search (rules, tests)))) c.map.ensures.closure (λ x r q k. search (rules, tests))))

@@ -1,8 +1,16 @@
-use Rattle.holding.proofs.Fronting.{tell_held, tell_none}
+use Rattle.std.proofs.Common.{◌≤◌, length, ap, subst, arith, length-take}
+use Rattle.naming.specs.Naming.{NamesFit}
+use Rattle.holding.proofs.Fronting.{tell_found, tell_lost}
 use Rattle.holding.proofs.telling.held.Goals as goal
 
-pub returns-in-Ok : goal.returns-in-Ok
-returns-in-Ok c = tell_held c.args.file.now c.args.drawer.now c.in-Some.count c.in-Some.ensures c.args.table.now c.check_names.new.table c.if-count-table.false c.in-Ok.names c.in-Ok.ensures
+pub returns-in_err-names : goal.returns-in_err-names
+returns-in_err-names c = rw c.from_residual-in_err-names.ensures (λ big d h.
+    let (n, front, is) = c.in_ok-cards.ensures in
+    let low : n ≤ length c.args.table.now = let w = front.named.within in let fit = c.if-cards-table.false in omega (arith, ap length is, length-take n c.args.drawer.now) in
+    tell_lost c.args.file.now c.args.drawer.now n (length c.args.table.now) front low c.check_names.result (subst (λ cards. NamesFit c.args.file.now cards (length c.args.table.now) c.check_names.result) is c.check_names.ensures) c.in_err-names.ensures.value d h)
 
-pub returns-in-Err : goal.returns-in-Err
-returns-in-Err c big d h = tell_none c.args.file.now c.args.drawer.now c.in-Some.count c.in-Some.ensures c.args.table.now c.check_names.new.table c.if-count-table.false c.in-Err.field-0 c.in-Err.ensures d h
+pub returns : goal.returns
+returns c =
+    let (n, front, is) = c.in_ok-cards.ensures in
+    let low : n ≤ length c.args.table.now = let w = front.named.within in let fit = c.if-cards-table.false in omega (arith, ap length is, length-take n c.args.drawer.now) in
+    tell_found c.args.file.now c.args.drawer.now n (length c.args.table.now) front low _ c.check_names.result is (subst (λ cards. NamesFit c.args.file.now cards (length c.args.table.now) c.check_names.result) is c.check_names.ensures) c.in_ok-names.ensures.value
