@@ -1,101 +1,65 @@
 -- Bits of words, and the writes to them. Assumes nothing.
-use Rattle.std.proofs.Common.{◌≡◌, ℕ, zero, suc, ◌+◌, ◌-◌, ◌*◌, ◌/◌, ◌%◌, ◌^◌, ◌<◌, ◌≤◌, Bool, true, false, not, ◌&&◌, ◌||◌, eqb, ltb, List, length, get_or, set, replicate, sym, refl, ap, ◌∙◌, ap₂, inl, inr, arith, get_or-set_other, get_or-set_same}
-use native.Mathlib.Nat.{zero-div}
-use lib.Bits.{bit_and, bit_or, or_zero_r}
-use Rattle.std.proofs.lemmas.Nat.{pow-add, shl-shr, pow_pos, pow_below, div_below, or_shr, or_mod, and_mask}
-use Rattle.std.proofs.lemmas.Bool.{cases_eq, cases_order, eq-eqb, ne_eqb, and_left, and_right, or_right}
+use Rattle.std.proofs.Common.{◌≡◌, ℕ, ◌+◌, ◌/◌, ◌%◌, ◌^◌, ◌<◌, ◌≤◌, Bool, false, not, ◌&&◌, ◌||◌, eqb, List, length, get_or, set, replicate, sym, ap, ◌∙◌, inl, inr, arith, length-set, get_or-set_other, get_or-set_same}
+use lib.Bits.{bit_or}
+use Rattle.std.specs.Int.{bit_at}
+use Rattle.std.proofs.lemmas.Nat.Bits.{bit_at_or, bit_at-lt, bit_at-pow_same, bit_at-pow_other, bit_at-zero}
+use Rattle.std.proofs.lemmas.List.{get_or-replicate}
+use Rattle.std.proofs.lemmas.Bool.{cases_eq}
 use Rattle.std.proofs.lemmas.Bool.Decides.{nat_tests}
+use Rattle.std.proofs.lemmas.Grind.{common_steps}
 use Rattle.model.specs.Positions.{turned}
-use Rattle.judging.specs.Sets.{bit}
+use Rattle.judging.specs.declared.sets.Types.{Types}
+use Rattle.judging.specs.Sets.{has_type, no_types, bit}
 
--- a power of two has one bit
+-- a word with one bit set
+or_bit : (w s u : ℕ) → eqb (bit_at (bit_or w (2 ^ s)) u) 1 ≡ (eqb (bit_at w u) 1 || eqb u s)
+or_bit w s u = grind (arith, nat_tests, bit_at_or, bit_at-lt, bit_at-pow_same, bit_at-pow_other)
 
-power_same : (s : ℕ) → 2 ^ s / 2 ^ s % 2 ≡ 1
-power_same s = ap (λ n. n / 2 ^ s % 2) (let e : 2 ^ s ≡ 1 * 2 ^ s = omega arith in e) ∙ ap (λ n. n % 2) (shl-shr 1 s)
-
-power_other : (s u : ℕ) → (u ≡ s → ⊥) → 2 ^ s / 2 ^ u % 2 ≡ 0
-power_other s u n = elim (cases_order u s) [
-  | inl e ↦ absurd (n e)
-  | inr (inl less) ↦ (
-      let j = s - u - 1 in
-      let sum : s ≡ (1 + j) + u = omega arith in
-      let power : 2 ^ s ≡ 2 ^ (1 + j) * 2 ^ u = ap (λ k. 2 ^ k) sum ∙ pow-add 2 (1 + j) u in
-      let half : 2 ^ s / 2 ^ u ≡ 2 ^ 1 * 2 ^ j = ap (λ k. k / 2 ^ u) power ∙ shl-shr (2 ^ (1 + j)) u ∙ pow-add 2 1 j in
-      ap (λ k. k % 2) half ∙ omega arith)
-  | inr (inr more) ↦ (
-      let small : 2 ^ s / 2 ^ u < 1 = div_below (2 ^ s) (2 ^ u) 1 (pow_pos u) (omega (arith, pow_below s u more)) in
-      omega arith)
-]
-
-or_one : (x : ℕ) → x < 2 → eqb (bit_or x 1) 1 ≡ true
-or_one x h = elim (cases_eq x 0) [
-  | inl e ↦ ap (λ n. eqb (bit_or n 1) 1) e
-  | inr n ↦ ap (λ k. eqb (bit_or k 1) 1) (let ne : x ≡ 0 → ⊥ = n in let e : x ≡ 1 = omega arith in e)
-]
-
-or_false : (x : Bool) → x ≡ (x || false)
-or_false true = refl
-or_false false = refl
-
-or_bit : (w s u : ℕ) → eqb (bit_or w (2 ^ s) / 2 ^ u % 2) 1 ≡ (eqb (w / 2 ^ u % 2) 1 || eqb u s)
-or_bit w s u =
-    let parts : bit_or w (2 ^ s) / 2 ^ u % 2 ≡ bit_or (w / 2 ^ u % 2) (2 ^ s / 2 ^ u % 2) = ap (λ n. n % 2) (or_shr w (2 ^ s) u) ∙ or_mod (w / 2 ^ u) (2 ^ s / 2 ^ u) 1 in
-    elim (cases_eq u s) [
-      | inl e ↦ ap (λ n. eqb n 1) (parts ∙ ap (bit_or (w / 2 ^ u % 2)) (ap (λ v. 2 ^ s / 2 ^ v % 2) e ∙ power_same s)) ∙ or_one (w / 2 ^ u % 2) (omega arith) ∙ sym (or_right (eqb (w / 2 ^ u % 2) 1) (eqb u s) (eq-eqb u s e))
-      | inr n ↦ ap (λ k. eqb k 1) (parts ∙ ap (bit_or (w / 2 ^ u % 2)) (power_other s u n) ∙ or_zero_r (w / 2 ^ u % 2)) ∙ or_false (eqb (w / 2 ^ u % 2) 1) ∙ ap (λ b. eqb (w / 2 ^ u % 2) 1 || b) (sym (ne_eqb u s n))
-    ]
-
-pub and_bit : (w : ℕ) → bit_and w 1 ≡ w % 2
-and_bit w = and_mask w 1
-
--- one bit is set
-pub bit_set : (seen : List ℕ) (l t k u p : ℕ) → t < 1024 → u < 1024 → 16 * l + t / 64 < length seen → p ≡ 2 ^ (t % 64) → bit (set seen (16 * l + t / 64) (bit_or (get_or seen (16 * l + t / 64) 0) p)) k u ≡ (bit seen k u || (eqb k l && eqb u t))
-bit_set seen l t k u p a b h e = elim (cases_eq (16 * k + u / 64) (16 * l + t / 64)) [
+-- a type joins a set
+pub type_joins : (w : List ℕ) (t u p : ℕ) → t / 64 < length w → p ≡ 2 ^ (t % 64) → has_type (set w (t / 64) (bit_or (get_or w (t / 64) 0) p)) u ≡ (has_type w u || eqb u t)
+type_joins w t u p h e = elim (cases_eq (u / 64) (t / 64)) [
   | inl same ↦ (
-      let w = get_or seen (16 * l + t / 64) 0 in
-      let now : get_or (set seen (16 * l + t / 64) (bit_or w p)) (16 * k + u / 64) 0 ≡ bit_or w (2 ^ (t % 64)) = ap (λ n. get_or (set seen (16 * l + t / 64) (bit_or w p)) n 0) same ∙ get_or-set_same seen (16 * l + t / 64) (bit_or w p) 0 h ∙ ap (bit_or w) e in
-      let was : get_or seen (16 * k + u / 64) 0 ≡ w = ap (λ n. get_or seen n 0) same in
-      ap (λ n. eqb (n / 2 ^ (u % 64) % 2) 1) now ∙ or_bit w (t % 64) (u % 64) ∙ ap₂ ◌||◌ (ap (λ n. eqb (n / 2 ^ (u % 64) % 2) 1) (sym was)) (tested same))
-  | inr other ↦ ap (λ n. eqb (n / 2 ^ (u % 64) % 2) 1) (get_or-set_other seen (16 * l + t / 64) (16 * k + u / 64) (bit_or (get_or seen (16 * l + t / 64) 0) p) 0 other) ∙ or_false (bit seen k u) ∙ ap (λ x. bit seen k u || x) (sym (apart other))
+      let is : get_or (set w (t / 64) (bit_or (get_or w (t / 64) 0) p)) (u / 64) 0 ≡ bit_or (get_or w (u / 64) 0) (2 ^ (t % 64)) = grind (arith, common_steps) in
+      let one : eqb (u % 64) (t % 64) ≡ eqb u t = grind (arith, nat_tests) in
+      ap (λ x. eqb (bit_at x (u % 64)) 1) is ∙ or_bit (get_or w (u / 64) 0) (t % 64) (u % 64) ∙ ap (λ b. has_type w u || b) one)
+  | inr other ↦ ap (λ x. eqb (bit_at x (u % 64)) 1) (get_or-set_other w (t / 64) (u / 64) (bit_or (get_or w (t / 64) 0) p) 0 other) ∙ stays (has_type w u) other
 ]
   where
-    tested : 16 * k + u / 64 ≡ 16 * l + t / 64 → eqb (u % 64) (t % 64) ≡ (eqb k l && eqb u t)
-    tested same = grind (arith, nat_tests)
+    stays : (x : Bool) → (u / 64 ≡ t / 64 → ⊥) → x ≡ (x || eqb u t)
+    stays x other = grind (arith, nat_tests)
 
-    apart : (16 * k + u / 64 ≡ 16 * l + t / 64 → ⊥) → (eqb k l && eqb u t) ≡ false
-    apart other = elim (cases_eq k l) [
-      | inr n ↦ and_left (eqb k l) (eqb u t) (ne_eqb k l n)
-      | inl e ↦ and_right (eqb k l) (eqb u t) (ne_eqb u t (λ f. other (ap₂ (λ x y. 16 * x + y / 64) e f)))
-    ]
+-- an empty one
+abbrev empty : Types
+empty = record { words = replicate 16 0 }
 
--- one word is cleared
-clear_word : (s : ℕ) → eqb (0 / 2 ^ s % 2) 1 ≡ false
-clear_word s = ap (λ n. eqb (n % 2) 1) (zero-div (2 ^ s))
+none_there : (u : ℕ) → u < 1024 → has_type empty.words u ≡ false
+none_there u h = ap (λ w. eqb (bit_at w (u % 64)) 1) (get_or-replicate 16 (u / 64) 0 0 (omega arith)) ∙ ap (λ n. eqb n 1) (bit_at-zero (u % 64))
 
--- all are clear
-pub bit_clear : (n k t : ℕ) → bit (replicate n 0) k t ≡ false
-bit_clear n k t = ap (λ w. eqb (w / 2 ^ (t % 64) % 2) 1) (getD_clear n (16 * k + t / 64)) ∙ clear_word (t % 64)
-  where
-    getD_clear : (n i : ℕ) → ◌≡◌ {A = ℕ} (get_or (replicate n 0) i 0) 0
-    getD_clear zero i = refl
-    getD_clear (suc n) zero = refl
-    getD_clear (suc n) (suc i) = getD_clear n i
+-- all are empty
+pub bit_clear : (k u : ℕ) → k ≤ 64 → u < 1024 → bit (replicate 65 empty) k u ≡ false
+bit_clear k u low h = ap (λ (x : Types). has_type x.words u) (get_or-replicate 65 k empty no_types (omega arith)) ∙ none_there u h
 
-pub word_cleared : (seen : List ℕ) (l j k u : ℕ) (x : Bool) → j < 16 → u < 1024 → 16 * l + j < length seen → bit seen k u ≡ (x && not (eqb k l && ltb (u / 64) j)) → bit (set seen (16 * l + j) 0) k u ≡ (x && not (eqb k l && ltb (u / 64) (j + 1)))
-word_cleared seen l j k u x a b h e = elim (cases_eq (16 * k + u / 64) (16 * l + j)) [
-  | inl same ↦ ap (λ n. eqb (n / 2 ^ (u % 64) % 2) 1) (ap (λ n. get_or (set seen (16 * l + j) 0) n 0) same ∙ get_or-set_same seen (16 * l + j) 0 0 h) ∙ clear_word (u % 64) ∙ gone (let k_is : k ≡ l = omega arith in k_is) (omega arith)
-  | inr other ↦ ap (λ n. eqb (n / 2 ^ (u % 64) % 2) 1) (get_or-set_other seen (16 * l + j) (16 * k + u / 64) 0 0 other) ∙ e ∙ stays other
+-- one is written, and the next becomes empty
+pub bit_turned : (levels : List Types) (l t k u : ℕ) (x : Types) → l + 1 < length levels → u < 1024 → has_type x.words u ≡ (bit levels l u || eqb u t) → bit (set (set levels l x) (l + 1) empty) k u ≡ turned (bit levels) l t k u
+bit_turned levels l t k u x h lt e = elim (cases_eq k (l + 1)) [
+  | inl below ↦ test (ap (λ n. get_or (set first (l + 1) empty) n no_types) below ∙ get_or-set_same first (l + 1) empty no_types (omega (arith, length-set levels l x))) ∙ none_there u lt ∙ gone (bit levels k u) below
+  | inr other ↦ test (get_or-set_other first (l + 1) k empty no_types other) ∙ elim (cases_eq k l) [
+    | inl here ↦ test (ap (λ n. get_or first n no_types) here ∙ get_or-set_same levels l x no_types (omega arith)) ∙ e ∙ ap (λ n. bit levels n u || eqb u t) (sym here) ∙ joins (bit levels k u) other here
+    | inr far ↦ test (get_or-set_other levels l k x no_types far) ∙ stays (bit levels k u) other far
+  ]
 ]
   where
-    gone : k ≡ l → u / 64 ≡ j → false ≡ (x && not (eqb k l && ltb (u / 64) (j + 1)))
-    gone p q = grind (arith, nat_tests)
+    first : List Types
+    first = set levels l x
 
-    stays : (16 * k + u / 64 ≡ 16 * l + j → ⊥) → (x && not (eqb k l && ltb (u / 64) j)) ≡ (x && not (eqb k l && ltb (u / 64) (j + 1)))
-    stays other = grind (arith, nat_tests)
+    test : {x y : Types} → x ≡ y → has_type x.words u ≡ has_type y.words u
+    test e = ap (λ (x : Types). has_type x.words u) e
 
--- all of them are
-pub all_cleared : (x y : Bool) (has : ℕ → ℕ → Bool) (l t k u j : ℕ) → 16 ≤ j → u < 1024 → x ≡ (has k u || (eqb k l && eqb u t)) → y ≡ (x && not (eqb k (l + 1) && ltb (u / 64) j)) → y ≡ turned has l t k u
-all_cleared x y has l t k u j h b e f = go (has k u) refl
-  where
-    go : (z : Bool) → has k u ≡ z → y ≡ turned has l t k u
-    go z is = grind (arith, nat_tests)
+    gone : (x : Bool) → k ≡ l + 1 → false ≡ (x && not (eqb k (l + 1)) || eqb k l && eqb u t)
+    gone x below = grind (arith, nat_tests)
+
+    joins : (x : Bool) → (k ≡ l + 1 → ⊥) → k ≡ l → (x || eqb u t) ≡ (x && not (eqb k (l + 1)) || eqb k l && eqb u t)
+    joins x other here = grind (arith, nat_tests)
+
+    stays : (x : Bool) → (k ≡ l + 1 → ⊥) → (k ≡ l → ⊥) → x ≡ (x && not (eqb k (l + 1)) || eqb k l && eqb u t)
+    stays x other far = grind (arith, nat_tests)

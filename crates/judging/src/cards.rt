@@ -1,108 +1,92 @@
-// The rules that ask of one card at a time.
-ghost use Rattle.std.specs.Prelude.{◌≡◌, ◌<◌, List, length, Decides, ◌==◌, slice_index_or};
-ghost use Rattle.model.specs.Books.{Meaning};
+// The cards of a tree with the book that judges them, and the rules that ask of one card at a time.
+ghost use Rattle.std.specs.Prelude.{◌≡◌, ℕ, ◌<◌, Bool, List, length, Decides, None};
+ghost use Rattle.std.specs.Result.{result_err};
 ghost use Rattle.model.specs.Datasets.{Entry};
-ghost use Rattle.model.specs.Refusals.{taken, aimed_right, filled};
-ghost use Rattle.model.specs.Positions.{KeepsAt, FirstOf, LeafAt, BareAt};
-ghost use Rattle.judging.specs.Marks.{Marked, no_mark};
-ghost use Rattle.judging.specs.CardRules.{book_rule, Tests};
+ghost use Rattle.model.specs.Refusals.{BookRule, taken, aimed_right, filled, book_rule_number};
+ghost use Rattle.model.specs.Positions.{LeafAt, BareAt};
+ghost use Rattle.judging.specs.Findings.{rule_number, missing_type};
+ghost use Rattle.judging.specs.Marks.{Marked, AllSmall};
+ghost use Rattle.judging.specs.CardRules.{Tests, Answers};
 
 use crate::entries::Entries;
+use crate::finding::{Finding, Rule};
 use crate::marks::Mark;
 use books::Book;
 use kinds::{Content, may_be_emptied, takes};
 use model::Kind;
 
-#[derive(Clone, Copy)]
-pub enum CardRule {
-    Taken,
-    Aimed,
-    Filled,
+// The cards of a tree, each marked.
+#[derive(Drop)]
+pub struct Cards<'a, B, E> {
+    pub book: &'a B,
+    pub entries: &'a E,
+    pub marks: &'a [Mark],
+    pub ghost small: { AllSmall marks.now },
 }
 
-// Whether the payload is of its kind.
-fn is_taken<B: Book, E: Entries>(book: &B, entries: &E, marks: &[Mark], i: usize) -> bool
-    requires { i < length marks.now }
-    ensures { Tests (B.meaning book.now) (E.shows entries.now) marks.now taken i result }
-{
-    takes(book, book.kind(marks[i].row.typed), entries.content(i))
-}
-
-fn is_of_type(marks: &[Mark], i: usize, typed: u16) -> bool
-    ensures { i < length marks.now → result ≡ ((slice_index_or marks.now i no_mark).row.typed == typed) }
-{
-    i < marks.len() && marks[i].row.typed == typed
-}
-
-// Whether a pointer of a pointer kind names a record of the type that the kind asks for.
-fn is_aimed<B: Book, E: Entries>(book: &B, entries: &E, marks: &[Mark], i: usize) -> bool
-    requires { i < length marks.now }
-    ensures { Tests (B.meaning book.now) (E.shows entries.now) marks.now aimed_right i result }
-{
-    let Kind::Pointer(typed) = book.kind(marks[i].row.typed) else {
-        return true;
-    };
-    match entries.target(i) {
-        Some(named) => is_of_type(marks, named, typed),
-        None => true,
+impl<B: Book, E: Entries> Cards<'_, B, E> {
+    // Whether the payload is of its kind.
+    pub fn is_taken(&self, i: usize) -> bool
+        requires { i < length self.now.marks.now }
+        ensures { Tests (B.meaning self.now.book.now) (E.shows self.now.entries.now) self.now.marks.now taken i result }
+    {
+        let kind = self.book.kind(self.marks[i].row.typed);
+        takes(self.book, kind, self.entries.content(i))
     }
-}
 
-// Whether no card stands below this one.
-fn is_leaf(marks: &[Mark], i: usize) -> bool
-    requires { i < length marks.now }
-    ensures { (m : Meaning) (b : List Entry) → Marked m b marks.now → Decides result (LeafAt b i) }
-{
-    i + 1 == marks.len() || marks[i + 1].level <= marks[i].level
-}
-
-// Whether a card has neither payload nor substructure.
-fn is_bare<E: Entries>(entries: &E, marks: &[Mark], i: usize) -> bool
-    requires { i < length marks.now }
-    ensures { (m : Meaning) (b : List Entry) → E.shows entries.now b → Marked m b marks.now → Decides result (BareAt b i) }
-{
-    is_leaf(marks, i) && matches!(entries.content(i), Content::Nothing)
-}
-
-// Whether a structure other than the header holds something, or is one that may stand empty.
-fn is_filled<B: Book, E: Entries>(book: &B, entries: &E, marks: &[Mark], i: usize) -> bool
-    requires { i < length marks.now }
-    ensures { Tests (B.meaning book.now) (E.shows entries.now) marks.now filled i result }
-{
-    let row = marks[i].row;
-    i == 0 || !is_bare(entries, marks, i) || row.required && may_be_emptied(book.kind(row.typed))
-}
-
-fn keeps<B: Book, E: Entries>(
-    book: &B,
-    entries: &E,
-    marks: &[Mark],
-    rule: CardRule,
-    i: usize,
-) -> bool
-    requires { i < length marks.now }
-    ensures { Tests (B.meaning book.now) (E.shows entries.now) marks.now (book_rule rule) i result }
-{
-    match rule {
-        CardRule::Taken => is_taken(book, entries, marks, i),
-        CardRule::Aimed => is_aimed(book, entries, marks, i),
-        CardRule::Filled => is_filled(book, entries, marks, i),
+    // Whether a pointer of a pointer kind names a record of the type that the kind asks for.
+    pub fn is_aimed(&self, i: usize) -> bool
+        requires { i < length self.now.marks.now }
+        ensures { Tests (B.meaning self.now.book.now) (E.shows self.now.entries.now) self.now.marks.now aimed_right i result }
+    {
+        let Kind::Pointer(typed) = self.book.kind(self.marks[i].row.typed) else {
+            return true;
+        };
+        self.entries
+            .target(i)
+            .and_then(|named| self.marks.get(named))
+            .is_none_or(|mark| mark.row.typed == typed)
     }
-}
 
-// The first card that breaks the rule.
-pub fn first_breaking<B: Book, E: Entries>(
-    book: &B,
-    entries: &E,
-    marks: &[Mark],
-    rule: CardRule,
-) -> Option<usize>
-    ensures { (b : List Entry) → E.shows entries.now b → Marked (B.meaning book.now) b marks.now → FirstOf (KeepsAt (B.meaning book.now) b (book_rule rule)) (length b) result }
-{
-    for i in 0..marks.len() {
-        if !keeps(book, entries, marks, rule, i) {
-            return Some(i);
+    // Whether no card stands below this one.
+    fn is_leaf(&self, i: usize) -> bool
+        requires { i < length self.now.marks.now }
+        ensures { (b : List Entry) → Marked (B.meaning self.now.book.now) b self.now.marks.now → Decides result (LeafAt b i) }
+    {
+        let level = self.marks[i].level;
+        self.marks.get(i + 1).is_none_or(|next| next.level <= level)
+    }
+
+    // Whether a card has neither payload nor substructure.
+    fn is_bare(&self, i: usize) -> bool
+        requires { i < length self.now.marks.now }
+        ensures { (b : List Entry) → E.shows self.now.entries.now b → Marked (B.meaning self.now.book.now) b self.now.marks.now → Decides result (BareAt b i) }
+    {
+        self.is_leaf(i) && matches!(self.entries.content(i), Content::Nothing)
+    }
+
+    // Whether a structure other than the header holds something, or is one that may stand empty.
+    pub fn is_filled(&self, i: usize) -> bool
+        requires { i < length self.now.marks.now }
+        ensures { Tests (B.meaning self.now.book.now) (E.shows self.now.entries.now) self.now.marks.now filled i result }
+    {
+        let row = self.marks[i].row;
+        i == 0 || !self.is_bare(i) || row.required && may_be_emptied(self.book.kind(row.typed))
+    }
+
+    // Whether every card keeps a rule; if not, the first that does not is told.
+    pub fn check_each<F: Fn(usize) -> bool>(&self, rule: Rule, keeps: F) -> Result<(), Finding>
+        requires { (i : ℕ) → i < length self.now.marks.now → F.pre keeps i }
+        ensures { (asked : BookRule) → rule_number rule ≡ book_rule_number asked → missing_type rule ≡ None → ((i : ℕ) (r : Bool) → i < length self.now.marks.now → F.post keeps i r → Tests (B.meaning self.now.book.now) (E.shows self.now.entries.now) self.now.marks.now asked i r) → Answers (B.meaning self.now.book.now) (E.shows self.now.entries.now) self.now.marks.now asked (result_err result) }
+    {
+        let broken = (0..self.marks.len()).find(
+            |i|
+                requires { F.pre keeps i.now }
+            { !keeps(*i) },
+        );
+        match broken {
+            Some(card) => Err(Finding { rule, card }),
+            None => Ok(()),
         }
     }
-    None
 }

@@ -1,5 +1,6 @@
 // Each card is marked with its level and its row, for the rules behind the first.
-ghost use Rattle.std.specs.Prelude.{◌≡◌, ℕ, ◌<◌, ◌≤◌, List, length, None};
+ghost use Rattle.std.specs.Prelude.{◌≡◌, ℕ, ◌<◌, ◌≤◌, List, length};
+ghost use Rattle.std.specs.Result.{IsOk, result_err};
 ghost use Rattle.model.specs.Datasets.{Entry};
 ghost use Rattle.model.specs.Positions.{Levelled, level_at};
 ghost use Rattle.judging.specs.Entries.{Judgeable};
@@ -38,20 +39,18 @@ fn level_of<E: Entries>(entries: &E, i: usize) -> u8
     entries.level(i).min(DEEPEST)
 }
 
-// Marks every card, or finds the first whose tag has no row.
-pub fn mark_all<B: Book, E: Entries>(book: &B, entries: &E, marks: &mut [Mark]) -> Option<usize>
-    ensures rows { (b : List Entry) → E.shows entries.now b → Judgeable b → length b ≡ length marks.old → RowsOf (B.meaning book.now) b marks.new result }
-    ensures small { result ≡ None → AllSmall marks.new }
+// Marks every card, or tells the first whose tag has no row.
+pub fn mark_all<B: Book, E: Entries>(book: &B, entries: &E, marks: &mut [Mark]) -> Result<(), usize>
+    ensures rows { (b : List Entry) → E.shows entries.now b → Judgeable b → length b ≡ length marks.old → RowsOf (B.meaning book.now) b marks.new (result_err result) }
+    ensures small { IsOk result → AllSmall marks.new }
 {
     // of each level that is open
     let mut contexts = [Context::Top; 65];
     for (i, mark) in marks.iter_mut().enumerate() {
         let level = level_of(entries, i);
-        let Some(row) = book.row(contexts[level as usize], entries.tag(i)) else {
-            return Some(i);
-        };
+        let row = book.row(contexts[level as usize], entries.tag(i)).ok_or(i)?;
         *mark = Mark { level, row };
         contexts[level as usize + 1] = Context::Under(row.typed);
     }
-    None
+    Ok(())
 }

@@ -1,60 +1,74 @@
 // The rule that each type that is needed under a structure, or at the top, stands there.
-ghost use Rattle.std.specs.Prelude.{ℕ, ◌<◌, ◌≤◌, List, length, Some, Decides, Option};
-ghost use Rattle.std.specs.List.{ContainsAt as Has};
+ghost use Rattle.std.specs.Prelude.{ℕ, ◌≤◌, List, Decides, Option};
+ghost use Rattle.std.specs.Result.{result_err};
 ghost use Rattle.model.specs.Datasets.{Entry};
-ghost use Rattle.model.specs.Positions.{LackIn, LackOf, NeedsOf, Ahead};
-ghost use Rattle.judging.specs.Marks.{Marked, AllSmall};
-ghost use Rattle.judging.specs.Sets.{bit, Clear};
+ghost use Rattle.model.specs.Refusals.{needed};
+ghost use Rattle.model.specs.Positions.{NeedMet, LackIn, LackOf, Ahead};
+ghost use Rattle.judging.specs.CardRules.{Answers};
+ghost use Rattle.judging.specs.Marks.{Marked};
+ghost use Rattle.judging.specs.Sets.{bit, Clear, TypesOf};
 
-use crate::marks::Mark;
+use crate::cards::Cards;
+use crate::entries::Entries;
+use crate::finding::{Finding, Rule};
 use crate::sets::Sets;
 use books::Book;
 use model::Context;
 
-// The first type that the context needs and that is not in the set of that level.
-fn first_missing<B: Book>(book: &B, context: Context, sets: &Sets, level: usize) -> Option<u16>
-    requires { level ≤ 64 }
-    ensures { (ts : List (Option ℕ)) → ((t : ℕ) → t < 1024 → Decides (bit sets.now.words level t) (Has ts (Some t))) → LackIn (B.meaning book.now) context ts result }
-{
-    for j in 0..book.needs(context) {
-        if let Some(typed) = book.need(context, j) {
-            if !sets.has(level, typed) {
-                return Some(typed);
+impl<B: Book, E: Entries> Cards<'_, B, E> {
+    // Whether need number `j` of the context is in the set of that level.
+    fn is_met(&self, context: Context, sets: &Sets, level: usize, j: usize) -> bool
+        requires { level ≤ 64 }
+        ensures { (ts : List (Option ℕ)) → TypesOf (bit sets.now.levels level) ts → Decides result (NeedMet (B.meaning self.now.book.now) context ts j) }
+    {
+        self.book
+            .need(context, j)
+            .is_none_or(|typed| sets.has(level, typed))
+    }
+
+    // The first type that the context needs and that is not in the set of that level.
+    fn first_missing(&self, context: Context, sets: &Sets, level: usize) -> Option<u16>
+        requires { level ≤ 64 }
+        ensures { (ts : List (Option ℕ)) → TypesOf (bit sets.now.levels level) ts → LackIn (B.meaning self.now.book.now) context ts result }
+    {
+        (0..self.book.needs(context))
+            .find(|j| !self.is_met(context, sets, level, *j))
+            .and_then(|j| self.book.need(context, j))
+    }
+
+    // The first card that lacks a type, with that type. The cards are passed from the last to the first, so that what stands
+    // below one is known before it comes; the sets end with what stands at the top.
+    fn first_lacking(&self, ahead: &mut Sets) -> Option<(usize, u16)>
+        requires { Clear ahead.old.levels }
+        ensures lacking { (b : List Entry) → Marked (B.meaning self.now.book.now) b self.now.marks.now → LackOf (B.meaning self.now.book.now) b 0 result }
+        ensures top { (b : List Entry) → Marked (B.meaning self.now.book.now) b self.now.marks.now → Ahead (B.meaning self.now.book.now) b 1024 0 (bit ahead.new.levels) }
+    {
+        let mut found = None;
+        for (i, mark) in self.marks.iter().enumerate().rev() {
+            let level = mark.level as usize;
+            let context = Context::Under(mark.row.typed);
+            if let Some(typed) = self.first_missing(context, ahead, level + 1) {
+                found = Some((i, typed));
             }
+            ahead.turn(level, mark.row.typed);
         }
+        found
     }
-    None
-}
 
-// The first card that lacks a type, with that type. The cards are passed from the last to the first, so that what stands
-// below one is known before it comes; the sets end with what stands at the top.
-fn first_lacking<B: Book>(book: &B, marks: &[Mark], ahead: &mut Sets) -> Option<(usize, u16)>
-    requires small { AllSmall marks.now }
-    requires clear { Clear ahead.old.words }
-    ensures lacking { (b : List Entry) → Marked (B.meaning book.now) b marks.now → LackOf (B.meaning book.now) b 0 result }
-    ensures top { (b : List Entry) → Marked (B.meaning book.now) b marks.now → Ahead (B.meaning book.now) b 1024 0 (bit ahead.new.words) }
-{
-    let mut found = None;
-    for i in (0..marks.len()).rev() {
-        let Mark { level, row } = marks[i];
-        let context = Context::Under(row.typed);
-        if let Some(typed) = first_missing(book, context, ahead, level as usize + 1) {
-            found = Some((i, typed));
+    // Whether every type that is needed stands there; if not, the card that lacks one is told. What is missing at the top
+    // comes first, and is told at the header.
+    pub fn check_needs(&self) -> Result<(), Finding>
+        ensures { Answers (B.meaning self.now.book.now) (E.shows self.now.entries.now) self.now.marks.now needed (result_err result) }
+    {
+        let mut ahead = Sets::new();
+        let lacking = self.first_lacking(&mut ahead);
+        let missing = self.first_missing(Context::Top, &ahead, 0);
+        match missing.map(|typed| (0, typed)).or(lacking) {
+            Some((card, typed)) => Err(Finding {
+                rule: Rule::Needed(typed),
+                card,
+            }),
+            None => Ok(()),
         }
-        ahead.turn(level as usize, row.typed);
-    }
-    found
-}
-
-// The card that is told for what it lacks, with the type. What is missing at the top comes first, and is told at the header.
-pub fn first_needing<B: Book>(book: &B, marks: &[Mark]) -> Option<(usize, u16)>
-    requires { AllSmall marks.now }
-    ensures { (b : List Entry) → Marked (B.meaning book.now) b marks.now → NeedsOf (B.meaning book.now) b result }
-{
-    let mut ahead = Sets::new();
-    let found = first_lacking(book, marks, &mut ahead);
-    match first_missing(book, Context::Top, &ahead, 0) {
-        Some(typed) => Some((0, typed)),
-        None => found,
     }
 }

@@ -1,26 +1,30 @@
 // The rule that a structure follows none of its type, unless many may stand there.
-ghost use Rattle.std.specs.Prelude.{List, length};
-ghost use Rattle.model.specs.Books.{Meaning};
-ghost use Rattle.model.specs.Datasets.{Entry};
+ghost use Rattle.std.specs.Result.{result_err};
 ghost use Rattle.model.specs.Refusals.{single};
-ghost use Rattle.model.specs.Positions.{KeepsAt, FirstOf};
-ghost use Rattle.judging.specs.Marks.{Marked, AllSmall};
+ghost use Rattle.judging.specs.CardRules.{Answers};
 
-use crate::marks::Mark;
+use crate::cards::Cards;
+use crate::entries::Entries;
+use crate::finding::{Finding, Rule};
 use crate::sets::Sets;
+use books::Book;
 
-// The first card that follows one of its type under its superstructure, where only one may stand.
-pub fn first_repeated(marks: &[Mark]) -> Option<usize>
-    requires { AllSmall marks.now }
-    ensures { (m : Meaning) (b : List Entry) → Marked m b marks.now → FirstOf (KeepsAt m b single) (length b) result }
-{
-    let mut seen = Sets::new();
-    for (i, mark) in marks.iter().enumerate() {
-        let level = mark.level as usize;
-        if !mark.row.many && seen.has(level, mark.row.typed) {
-            return Some(i);
+impl<B: Book, E: Entries> Cards<'_, B, E> {
+    // Whether no card follows one of its type under its superstructure where only one may stand; if one does, the first is told.
+    pub fn check_repeats(&self) -> Result<(), Finding>
+        ensures { Answers (B.meaning self.now.book.now) (E.shows self.now.entries.now) self.now.marks.now single (result_err result) }
+    {
+        let mut seen = Sets::new();
+        for (i, mark) in self.marks.iter().enumerate() {
+            let level = mark.level as usize;
+            if !mark.row.many && seen.has(level, mark.row.typed) {
+                return Err(Finding {
+                    rule: Rule::Single,
+                    card: i,
+                });
+            }
+            seen.turn(level, mark.row.typed);
         }
-        seen.turn(level, mark.row.typed);
+        Ok(())
     }
-    None
 }

@@ -1,58 +1,44 @@
 ghost use Rattle.std.specs.Prelude.{◌≡◌, List, length};
+ghost use Rattle.std.specs.Result.{result_err};
 ghost use Rattle.model.specs.Datasets.{Entry};
 ghost use Rattle.judging.specs.Findings.{Judged};
 ghost use Rattle.judging.specs.Entries.{Judgeable};
+ghost use Rattle.judging.specs.Marks.{Marked};
 
-use crate::cards::{CardRule, first_breaking};
+use crate::cards::Cards;
 use crate::entries::Entries;
 use crate::finding::{Finding, Rule};
 use crate::marks::{Mark, mark_all};
-use crate::needs::first_needing;
-use crate::repeats::first_repeated;
 use books::Book;
 use model::MOST;
 
-// Each rule is asked of every card before the next.
-fn judge_with<B: Book, E: Entries>(book: &B, entries: &E, marks: &mut [Mark]) -> Option<Finding>
-    ensures { (b : List Entry) → E.shows entries.now b → Judgeable b → length b ≡ length marks.old → Judged (B.meaning book.now) b result }
+impl<B: Book, E: Entries> Cards<'_, B, E> {
+    // Each rule is asked of every card before the next.
+    fn check(&self) -> Result<(), Finding>
+        ensures { (b : List Entry) → E.shows self.now.entries.now b → Marked (B.meaning self.now.book.now) b self.now.marks.now → Judged (B.meaning self.now.book.now) b (result_err result) }
+    {
+        self.check_each(Rule::Taken, |i| self.is_taken(i))?;
+        self.check_each(Rule::Aimed, |i| self.is_aimed(i))?;
+        self.check_repeats()?;
+        self.check_needs()?;
+        self.check_each(Rule::Filled, |i| self.is_filled(i))
+    }
+}
+
+// Every card is marked before the other rules are asked.
+fn judge_with<B: Book, E: Entries>(book: &B, entries: &E, marks: &mut [Mark]) -> Result<(), Finding>
+    ensures { (b : List Entry) → E.shows entries.now b → Judgeable b → length b ≡ length marks.old → Judged (B.meaning book.now) b (result_err result) }
 {
-    if let Some(card) = mark_all(book, entries, marks) {
-        return Some(Finding {
-            rule: Rule::Known,
-            card,
-        });
-    }
-    if let Some(card) = first_breaking(book, entries, marks, CardRule::Taken) {
-        return Some(Finding {
-            rule: Rule::Taken,
-            card,
-        });
-    }
-    if let Some(card) = first_breaking(book, entries, marks, CardRule::Aimed) {
-        return Some(Finding {
-            rule: Rule::Aimed,
-            card,
-        });
-    }
-    if let Some(card) = first_repeated(marks) {
-        return Some(Finding {
-            rule: Rule::Single,
-            card,
-        });
-    }
-    if let Some((card, typed)) = first_needing(book, marks) {
-        return Some(Finding {
-            rule: Rule::Needed(typed),
-            card,
-        });
-    }
-    if let Some(card) = first_breaking(book, entries, marks, CardRule::Filled) {
-        return Some(Finding {
-            rule: Rule::Filled,
-            card,
-        });
-    }
-    None
+    mark_all(book, entries, marks).map_err(|card| Finding {
+        rule: Rule::Known,
+        card,
+    })?;
+    let cards = Cards {
+        book,
+        entries,
+        marks,
+    };
+    cards.check()
 }
 
 // The lowest rule of the book that a card breaks, and the first card that breaks it; none where every card keeps all.
@@ -61,5 +47,5 @@ pub fn judge<B: Book, E: Entries>(book: &B, entries: &E) -> Option<Finding>
 {
     let mut marks = [Mark::BLANK; MOST];
     let count = entries.count().min(MOST);
-    judge_with(book, entries, &mut marks[0..count])
+    judge_with(book, entries, &mut marks[0..count]).err()
 }

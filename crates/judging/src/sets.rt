@@ -1,40 +1,60 @@
-ghost use Rattle.std.specs.Prelude.{◌≡◌, ◌<◌, ◌≤◌};
+ghost use Rattle.std.specs.Prelude.{◌≡◌, ℕ, ◌<◌, ◌≤◌, false, ◌||◌, ◌==◌};
 ghost use Rattle.model.specs.Positions.{Turns};
-ghost use Rattle.judging.specs.Sets.{bit, Clear};
+ghost use Rattle.judging.specs.Sets.{has_type, bit, Clear};
 
-// Sixteen words of 64 bits for each of 65 levels.
-const WORDS: usize = 65 * 16;
+// A set of types below 1,024, with a bit for each.
+#[derive(Clone, Copy)]
+pub struct Types {
+    words: [u64; 16],
+}
 
-// A set of types for each level of structures, and one for what would stand below the deepest. A type is below 1,024.
+impl Types {
+    const NONE: Types = Types { words: [0; 16] };
+
+    fn has(&self, typed: u16) -> bool
+        requires { typed < 1024 }
+        ensures { result ≡ has_type self.now.words typed }
+    {
+        (self.words[typed as usize / 64] >> (typed % 64)) & 1 == 1
+    }
+
+    fn insert(&mut self, typed: u16)
+        requires { typed < 1024 }
+        ensures { (t : ℕ) → t < 1024 → has_type self.new.words t ≡ (has_type self.old.words t || t == typed) }
+    {
+        self.words[typed as usize / 64] |= 1 << (typed % 64);
+    }
+}
+
+// A set for each level of structures, and one for what would stand below the deepest.
 #[derive(Drop)]
 pub struct Sets {
-    words: [u64; WORDS],
+    levels: [Types; 65],
 }
 
 impl Sets {
     pub fn new() -> Sets
-        ensures { Clear result.words }
+        ensures { Clear result.levels }
     {
-        Sets { words: [0; WORDS] }
+        Sets {
+            levels: [Types::NONE; 65],
+        }
     }
 
     // Whether the type is in the set of that level.
     pub fn has(&self, level: usize, typed: u16) -> bool
         requires { (level ≤ 64) × (typed < 1024) }
-        ensures { result ≡ bit self.now.words level typed }
+        ensures { result ≡ bit self.now.levels level typed }
     {
-        (self.words[16 * level + typed as usize / 64] >> (typed % 64)) & 1 == 1
+        self.levels[level].has(typed)
     }
 
     // Passes a structure of that level and type: the type joins its set, and below it a new row begins.
     pub fn turn(&mut self, level: usize, typed: u16)
         requires { (level < 64) × (typed < 1024) }
-        ensures { Turns 1024 (bit self.old.words) level typed (bit self.new.words) }
+        ensures { Turns 1024 (bit self.old.levels) level typed (bit self.new.levels) }
     {
-        let at = 16 * level + typed as usize / 64;
-        self.words[at] |= 1 << (typed % 64);
-        for j in 0..16 {
-            self.words[16 * (level + 1) + j] = 0;
-        }
+        self.levels[level].insert(typed);
+        self.levels[level + 1] = Types::NONE;
     }
 }
