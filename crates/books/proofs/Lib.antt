@@ -1,3 +1,3 @@
 pub mod Aiming
-pub mod Listing
+pub mod Layering
 pub mod Seeking

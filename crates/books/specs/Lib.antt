@@ -1,3 +1,4 @@
 pub mod Aims
 pub mod Entries
+pub mod Shelves
 pub mod Times

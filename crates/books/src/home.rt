@@ -1,7 +1,12 @@
 mod table;
 
+ghost use Rattle.std.specs.Prelude.{◌≡◌, count_by, filter, map};
+ghost use Rattle.std.specs.List.{find, slice_get};
+ghost use Rattle.std.specs.Option.{option_map};
+ghost use Rattle.std.specs.Str.{bytes_eq};
 ghost use Rattle.model.specs.Tables.{home};
-ghost use Rattle.books.specs.Entries.{Entries, WordsOf};
+ghost use Rattle.books.specs.Times.{is_required};
+ghost use Rattle.books.specs.Entries.{Entries, WordsOf, row_of};
 ghost use Rattle.model.proofs.Lawful.{home_lawful};
 
 use super::book::Book;
@@ -18,28 +23,20 @@ fn entries(context: Context) -> &'static [Entry]
 {
     match context {
         Context::Top => &AT_TOP,
-        Context::Under(typed) => entries_under(typed),
-    }
-}
-
-fn entries_under(typed: u16) -> &'static [Entry]
-    ensures { Entries (Context.Under typed) result.now }
-{
-    match typed {
-        HEADER => &OF_HEADER,
-        PERSON => &OF_PERSON,
-        FAMILY => &OF_FAMILY,
-        SUBMITTER => &OF_SUBMITTER,
-        FORMAT => &OF_FORMAT,
-        FILED => &OF_FILED,
-        PERSONAL_NAME => &OF_PERSONAL_NAME,
-        BIRTH | DEATH => &OF_BIRTH_OR_DEATH,
-        DATE => &OF_DATE,
-        PLACE => &OF_PLACE,
-        MAP => &OF_MAP,
-        MARRIAGE => &OF_MARRIAGE,
-        HUSBAND | WIFE | CHILD => &OF_FAMILY_MEMBER,
-        _ => &[],
+        Context::Under(HEADER) => &OF_HEADER,
+        Context::Under(PERSON) => &OF_PERSON,
+        Context::Under(FAMILY) => &OF_FAMILY,
+        Context::Under(SUBMITTER) => &OF_SUBMITTER,
+        Context::Under(FORMAT) => &OF_FORMAT,
+        Context::Under(FILED) => &OF_FILED,
+        Context::Under(PERSONAL_NAME) => &OF_PERSONAL_NAME,
+        Context::Under(BIRTH | DEATH) => &OF_BIRTH_OR_DEATH,
+        Context::Under(DATE) => &OF_DATE,
+        Context::Under(PLACE) => &OF_PLACE,
+        Context::Under(MAP) => &OF_MAP,
+        Context::Under(MARRIAGE) => &OF_MARRIAGE,
+        Context::Under(HUSBAND | WIFE | CHILD) => &OF_FAMILY_MEMBER,
+        Context::Under(_) => &[],
     }
 }
 
@@ -55,6 +52,33 @@ fn words(set: u16) -> &'static [&'static [u8]]
     }
 }
 
+// The row of the first entry with a tag.
+fn row_of_tag(entries: &[Entry], tag: &[u8]) -> Option<Row>
+    ensures { result ≡ option_map row_of (find (λ e. bytes_eq e.0.now tag.now) entries.now) }
+{
+    entries
+        .iter()
+        .find(|Entry(known, ..)| *known == tag)
+        .map(|entry| entry.row())
+}
+
+fn count_required(entries: &[Entry]) -> usize
+    ensures { result ≡ count_by (λ e. is_required e.2) entries.now }
+{
+    entries.iter().filter(|entry| entry.is_required()).count()
+}
+
+// The type of the required entry number `j`, counted from 0.
+fn required_type(entries: &[Entry], j: usize) -> Option<u16>
+    ensures { result ≡ slice_get (map (λ e. e.1) (filter (λ e. is_required e.2) entries.now)) j }
+{
+    entries
+        .iter()
+        .filter(|entry| entry.is_required())
+        .map(|Entry(_, typed, _)| *typed)
+        .nth(j)
+}
+
 impl Book for Home {
     ghost meaning = { λ _. home };
 
@@ -65,54 +89,25 @@ impl Book for Home {
     }
 
     fn row(&self, context: Context, tag: &[u8]) -> Option<Row> {
-        for Entry(known, typed, times) in entries(context) {
-            if *known == tag {
-                return Some(Row {
-                    typed: *typed,
-                    required: times.required(),
-                    many: times.many(),
-                });
-            }
-        }
-        None
+        row_of_tag(entries(context), tag)
     }
 
     fn needs(&self, context: Context) -> usize {
-        let mut count = 0;
-        for Entry(_, _, times) in entries(context) {
-            if times.required() {
-                count += 1;
-            }
-        }
-        count
+        count_required(entries(context))
     }
 
     fn need(&self, context: Context, j: usize) -> Option<u16> {
-        let mut ahead = j;
-        for Entry(_, typed, times) in entries(context) {
-            if times.required() {
-                if ahead == 0 {
-                    return Some(*typed);
-                }
-                ahead -= 1;
-            }
-        }
-        None
+        required_type(entries(context), j)
     }
 
     fn kind(&self, typed: u16) -> Kind {
-        match KINDS.get(typed as usize) {
-            Some(kind) => *kind,
-            None => Kind::Nothing,
-        }
+        KINDS
+            .get(usize::from(typed))
+            .copied()
+            .unwrap_or(Kind::Nothing)
     }
 
     fn member(&self, set: u16, word: &[u8]) -> bool {
-        for known in words(set) {
-            if *known == word {
-                return true;
-            }
-        }
-        false
+        words(set).contains(&word)
     }
 }

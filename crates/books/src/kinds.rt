@@ -3,7 +3,8 @@ ghost use Rattle.model.specs.Books.{kind_number, number_of_kind};
 
 use model::Kind;
 
-// The number of a kind.
+// The number of a kind, for those who exchange books.
+// A match, since the kinds that hold a number of their own cast to none.
 pub fn kind_number(kind: Kind) -> u8
     ensures { result ≡ kind_number kind }
 {
@@ -28,6 +29,7 @@ pub fn kind_number(kind: Kind) -> u8
 }
 
 // What a kind is of: the set of a word or of a list of words, the type of what a pointer names, and 0 for every other kind.
+// No Option, since books are exchanged with this 0.
 pub fn kind_parameter(kind: Kind) -> u16
     ensures { result ≡ number_of_kind kind }
 {

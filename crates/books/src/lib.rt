@@ -8,6 +8,7 @@ mod kinds;
 mod open;
 mod plain;
 mod pointers;
+mod shelf;
 
 pub use book::Book;
 pub use home::Home;
@@ -15,3 +16,4 @@ pub use kinds::{kind_number, kind_parameter};
 pub use open::Open;
 pub use plain::Plain;
 pub use pointers::pointers_stay_within;
+pub use shelf::{NoSuchBook, Shelf};

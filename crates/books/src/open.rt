@@ -1,4 +1,4 @@
-ghost use Rattle.std.specs.Prelude.{◌≡◌, None};
+ghost use Rattle.std.specs.Prelude.{◌≡◌, cond, nat_lt, Some, None};
 ghost use Rattle.model.specs.Books.{Meaning};
 ghost use Rattle.model.specs.Tables.{underscored, open_row, open_layer};
 ghost use Rattle.model.proofs.Lawful.{open_lawful};
@@ -17,27 +17,50 @@ pub struct Open<B> {
     pub below: B,
 }
 
+impl<B: Book> Open<B> {
+    // The further type, where there is room for it.
+    fn further(&self) -> Option<u16>
+        ensures { let types = (B.meaning self.now.below).types in result ≡ cond (nat_lt types 1000) (Some types) None }
+    {
+        let further = self.below.types();
+        if further < MOST_TYPES {
+            Some(further as u16)
+        } else {
+            None
+        }
+    }
+
+    // The row of a tag that the book below has none for.
+    fn further_row(&self, context: Context, tag: &[u8]) -> Option<Row>
+        ensures { let m = B.meaning self.now.below in m.row context tag.now ≡ None → result ≡ (open_layer m).row context tag.now }
+    {
+        let further = self.further()?;
+        let free = Row {
+            typed: further,
+            required: false,
+            many: true,
+        };
+        match context {
+            Context::Under(typed) if typed == further => Some(free),
+            Context::Under(typed) if typed > further => None,
+            Context::Top | Context::Under(_) => tag.starts_with(b"_").then_some(free),
+        }
+    }
+}
+
 impl<B: Book> Book for Open<B> {
     ghost meaning = { λ o. open_layer (B.Book.meaning o.below) };
 
     ghost lawful = { λ x. open_lawful (B.Book.meaning x.below) (B.Book.lawful x.below) };
 
     fn types(&self) -> usize {
-        let below = self.below.types();
-        if below < MOST_TYPES { below + 1 } else { below }
+        self.below.types() + usize::from(self.further().is_some())
     }
 
     fn row(&self, context: Context, tag: &[u8]) -> Option<Row> {
-        let known = self.below.row(context, tag);
-        if known.is_some() {
-            return known;
-        }
-        let further = self.below.types();
-        if further < MOST_TYPES {
-            further_row(context, tag, further as u16)
-        } else {
-            None
-        }
+        self.below
+            .row(context, tag)
+            .or_else(|| self.further_row(context, tag))
     }
 
     fn needs(&self, context: Context) -> usize {
@@ -49,8 +72,7 @@ impl<B: Book> Book for Open<B> {
     }
 
     fn kind(&self, typed: u16) -> Kind {
-        let further = self.below.types();
-        if further < MOST_TYPES && typed as usize == further {
+        if self.further() == Some(typed) {
             Kind::Anything
         } else {
             self.below.kind(typed)
@@ -59,34 +81,5 @@ impl<B: Book> Book for Open<B> {
 
     fn member(&self, set: u16, word: &[u8]) -> bool {
         self.below.member(set, word)
-    }
-}
-
-// The row of a tag that the book below has none for, where there is room for the type `further`.
-fn further_row(context: Context, tag: &[u8], further: u16) -> Option<Row>
-    ensures { (m : Meaning) → m.types ≡ further → m.row context tag.now ≡ None → result ≡ open_row m context tag.now }
-{
-    let free = Some(Row {
-        typed: further,
-        required: false,
-        many: true,
-    });
-    match context {
-        Context::Under(typed) if typed == further => free,
-        Context::Under(typed) if typed > further => None,
-        Context::Top | Context::Under(_) => if begins_with_underscore(tag) {
-            free
-        } else {
-            None
-        },
-    }
-}
-
-fn begins_with_underscore(tag: &[u8]) -> bool
-    ensures { result ≡ underscored tag.now }
-{
-    match tag {
-        [b'_', ..] => true,
-        _ => false,
     }
 }

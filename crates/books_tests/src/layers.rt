@@ -8,14 +8,11 @@ struct Free(Context, &'static [u8], Option<u16>);
 
 fn rows_are<B: Book>(rt: &impl Abort, book: &B, expected: &[Free]) {
     for Free(context, tag, typed) in expected {
-        let row = match *typed {
-            Some(typed) => Some(Row {
-                typed,
-                required: false,
-                many: true,
-            }),
-            None => None,
-        };
+        let row = typed.map(|typed| Row {
+            typed,
+            required: false,
+            many: true,
+        });
         assert_eq!(rt; book.row(*context, tag), row);
     }
 }

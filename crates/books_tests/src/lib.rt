@@ -1,5 +1,6 @@
-// The books asked by example: every entry of the home book and tags that have none, layers over each other, and a layer
-// over a book that has no room for a further type. What is expected is written down from the table of the society.
+// The books asked by example: every entry of the home book and tags that have none, layers over each other, a layer
+// over a book that has no room for a further type, and each book by its name. What is expected is written down from the
+// table of the society.
 #![tactic(auto)]
 
 #[cfg(test)]
@@ -10,3 +11,5 @@ mod home;
 mod kinds;
 #[cfg(test)]
 mod layers;
+#[cfg(test)]
+mod shelf;

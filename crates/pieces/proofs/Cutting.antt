@@ -1,48 +1,66 @@
 -- A text cut at the first of a byte, by its place. Assumes nothing.
-use Rattle.std.proofs.Common.{◌≡◌, ℕ, ◌+◌, ◌-◌, ◌<◌, ◌≤◌, Bool, ◌&&◌, List, [], ◌∷◌, length, take, drop, Some, None, sym, refl, ap, ◌∙◌}
-use Rattle.std.specs.List.{prefix_len}
+use Rattle.std.proofs.Common.{◌≡◌, ℕ, ◌+◌, ◌-◌, ◌<◌, ◌≤◌, Bool, cond, not, ◌&&◌, eqb, ltb, List, [], ◌∷◌, length, take, drop, Some, None, Option, sym, refl, ap, ◌∙◌, arith, length-drop}
+use Rattle.std.specs.List.{position, position_or_len}
+use Rattle.std.proofs.lemmas.Bool.Decides.{nat_tests}
 use Rattle.std.proofs.lemmas.List.{drop_more, drop_all, take_all, take_rest}
 use Rattle.model.specs.Kinds.{cut, left_trimmed, right_trimmed}
-use Rattle.model.specs.Grammar.{other_than, piece, behind_first, behind, pieces, later_pass, pieces_pass}
+use Rattle.model.specs.Grammar.{piece, behind_first, behind, pieces, starts_blank, ends_blank, begins_well, ends_well, are_texts, later_pass, pieces_pass}
 use Rattle.model.proofs.Grammars.{cut_step}
 
-module _ (c : ℕ) (t : List ℕ) (e : ℕ) (is : e ≡ prefix_len (other_than c) t) where
-  pub before_it : take e t ≡ piece c t
-  before_it = ap (λ n. take n t) is
+-- where a byte first stands, as `position` says it
+found : (n m e : ℕ) → cond (ltb n m) (Some n) None ≡ Some e → (e ≡ n) × (n < m)
+found n m e is = grind (arith, nat_tests)
 
-  pub behind_it : e < length t → Some (take (length t - (e + 1)) (drop (e + 1) t)) ≡ behind c t
-  behind_it h = ap Some (take_rest t (e + 1)) ∙ sym (ap behind_first (drop_more t e 0 h)) ∙ ap (λ n. behind_first (drop n t)) is
-
-  pub all_before : length t ≤ e → t ≡ piece c t
-  all_before h = sym (take_all e t h) ∙ before_it
-
-  pub none_behind : length t ≤ e → None ≡ behind c t
-  none_behind h = sym (ap behind_first (drop_all e t h)) ∙ ap (λ n. behind_first (drop n t)) is
-
--- The pieces of a text, by the first cut
+not_found : (n m : ℕ) → cond (ltb n m) (Some n) None ≡ None → m ≤ n
+not_found n m is = grind (arith, nat_tests)
 
 module _ (c : ℕ) (t : List ℕ) where
-  pub cut_more : (rest : List ℕ) → Some rest ≡ behind c t → cut c t ≡ piece c t ∷ cut c rest
-  cut_more rest e = cut_step c t ∙ ap (λ o. piece c t ∷ pieces c o) (sym e)
+  abbrev place : ℕ
+  place = position_or_len (λ x. eqb x c) t
 
-  pub cut_last : None ≡ behind c t → cut c t ≡ piece c t ∷ []
-  cut_last e = cut_step c t ∙ ap (λ o. piece c t ∷ pieces c o) (sym e)
+  pub first_and_rest : (e : ℕ) → position (λ x. eqb x c) t ≡ Some e → (take e t ≡ piece c t) × (Some (take (length t - (e + 1)) (drop (e + 1) t)) ≡ behind c t)
+  first_and_rest e is =
+      let at : (e ≡ place) × (place < length t) = found place (length t) e is in
+      (ap (λ n. take n t) at.0, ap Some (take_rest t (e + 1)) ∙ ap (λ n. Some (drop (n + 1) t)) at.0 ∙ sym (ap behind_first (drop_more t place 0 at.1)))
 
-  -- what f asks of a piece and those behind it is g of those behind it
-  pub over_first : (f g : List (List ℕ) → Bool) (w : List ℕ) → ((v : List ℕ) (vs : List (List ℕ)) → f (w ∷ v ∷ vs) ≡ g (v ∷ vs)) → f (w ∷ cut c t) ≡ g (cut c t)
-  over_first f g w step = ap (λ ws. f (w ∷ ws)) (cut_step c t) ∙ step (piece c t) (pieces c (behind c t)) ∙ sym (ap g (cut_step c t))
+  pub first_alone : position (λ x. eqb x c) t ≡ None → (t ≡ piece c t) × (None ≡ behind c t)
+  first_alone is =
+      let past : length t ≤ place = not_found place (length t) is in
+      (sym (take_all place t past), sym (ap behind_first (drop_all place t past)))
 
--- Words between commas
+-- where no such byte stands, the first piece is the whole
+no_more_from : (xs : List ℕ) → None ≡ behind_first xs → length xs ≡ 0
+no_more_from [] e = refl
+no_more_from (x ∷ xs) e = cc
 
-module _ (p : List ℕ → Bool) (t first : List ℕ) (is : first ≡ piece 44 t) where
-  pub words_more : (rest : List ℕ) → Some rest ≡ behind 44 t → pieces_pass p (cut 44 t) ≡ (p (right_trimmed first) && later_pass p (cut 44 rest))
-  words_more rest e = ap (pieces_pass p) (cut_more 44 t rest e ∙ ap (λ w. w ∷ cut 44 rest) (sym is)) ∙ over_first 44 rest (pieces_pass p) (λ vs. p (right_trimmed first) && later_pass p vs) first (λ v vs. refl)
+pub whole_piece : (c : ℕ) (t : List ℕ) → None ≡ behind c t → piece c t ≡ t
+whole_piece c t is = take_all (place c t) t (omega (arith, length-drop (place c t) t, no_more_from (drop (place c t) t) is))
 
-  pub words_last : None ≡ behind 44 t → pieces_pass p (cut 44 t) ≡ p first
-  words_last e = ap (pieces_pass p) (cut_last 44 t e ∙ ap (λ w. w ∷ []) (sym is))
+-- What is asked of the pieces of a text, by its first cut
 
-  pub later_more : (rest : List ℕ) → Some rest ≡ behind 44 t → later_pass p (cut 44 t) ≡ (p (right_trimmed (left_trimmed first)) && later_pass p (cut 44 rest))
-  later_more rest e = ap (later_pass p) (cut_more 44 t rest e ∙ ap (λ w. w ∷ cut 44 rest) (sym is)) ∙ over_first 44 rest (later_pass p) (λ vs. p (right_trimmed (left_trimmed first)) && later_pass p vs) first (λ v vs. refl)
+-- what f asks of a piece and those behind it is g of those behind it
+over_first : (f g : List (List ℕ) → Bool) (w t : List ℕ) → ((v : List ℕ) (vs : List (List ℕ)) → f (w ∷ v ∷ vs) ≡ g (v ∷ vs)) → f (w ∷ cut 44 t) ≡ g (cut 44 t)
+over_first f g w t step = ap (λ ws. f (w ∷ ws)) (cut_step 44 t) ∙ step (piece 44 t) (pieces 44 (behind 44 t)) ∙ sym (ap g (cut_step 44 t))
 
-  pub later_last : None ≡ behind 44 t → later_pass p (cut 44 t) ≡ p (left_trimmed first)
-  later_last e = ap (later_pass p) (cut_last 44 t e ∙ ap (λ w. w ∷ []) (sym is))
+-- f of the only piece, or what g asks of the first piece and of those behind it
+abbrev by_first : (List ℕ → Bool) → (List ℕ → List (List ℕ) → Bool) → List ℕ → Option (List ℕ) → Bool
+by_first f g w None = f w
+by_first f g w (Some rest) = g w (cut 44 rest)
+
+asked_by_first : (h : List (List ℕ) → Bool) (f : List ℕ → Bool) (g : List ℕ → List (List ℕ) → Bool) → ((w : List ℕ) → h (w ∷ []) ≡ f w) → ((w v : List ℕ) (vs : List (List ℕ)) → h (w ∷ v ∷ vs) ≡ g w (v ∷ vs)) → (w : List ℕ) (o : Option (List ℕ)) → h (w ∷ pieces 44 o) ≡ by_first f g w o
+asked_by_first h f g one more w None = one w
+asked_by_first h f g one more w (Some rest) = over_first h (g w) w rest (more w)
+
+module _ (t : List ℕ) where
+  pub ends_by_first : ends_well (cut 44 t) ≡ by_first (λ w. ends_well (w ∷ [])) (λ w ws. ends_well ws) (piece 44 t) (behind 44 t)
+  ends_by_first = ap ends_well (cut_step 44 t) ∙ asked_by_first ends_well (λ w. ends_well (w ∷ [])) (λ w ws. ends_well ws) (λ w. refl) (λ w v vs. refl) (piece 44 t) (behind 44 t)
+
+  pub texts_by_first : are_texts (cut 44 t) ≡ by_first (λ w. not (starts_blank w) && not (ends_blank w)) (λ w ws. begins_well w && ends_well ws) (piece 44 t) (behind 44 t)
+  texts_by_first = ap are_texts (cut_step 44 t) ∙ asked_by_first are_texts (λ w. not (starts_blank w) && not (ends_blank w)) (λ w ws. begins_well w && ends_well ws) (λ w. refl) (λ w v vs. refl) (piece 44 t) (behind 44 t)
+
+module _ (p : List ℕ → Bool) (t : List ℕ) where
+  pub later_by_first : later_pass p (cut 44 t) ≡ by_first (λ w. p (left_trimmed w)) (λ w ws. p (right_trimmed (left_trimmed w)) && later_pass p ws) (piece 44 t) (behind 44 t)
+  later_by_first = ap (later_pass p) (cut_step 44 t) ∙ asked_by_first (later_pass p) (λ w. p (left_trimmed w)) (λ w ws. p (right_trimmed (left_trimmed w)) && later_pass p ws) (λ w. refl) (λ w v vs. refl) (piece 44 t) (behind 44 t)
+
+  pub words_by_first : pieces_pass p (cut 44 t) ≡ by_first p (λ w ws. p (right_trimmed w) && later_pass p ws) (piece 44 t) (behind 44 t)
+  words_by_first = ap (pieces_pass p) (cut_step 44 t) ∙ asked_by_first (pieces_pass p) p (λ w ws. p (right_trimmed w) && later_pass p ws) (λ w. refl) (λ w v vs. refl) (piece 44 t) (behind 44 t)

@@ -1,2 +1,4 @@
+pub mod Chains
 pub mod Cutting
 pub mod Looping
+pub mod Trimming

@@ -1,130 +1,95 @@
 ghost use Rattle.std.specs.Prelude.{◌≡◌, [], ◌∷◌};
 ghost use Rattle.model.specs.Kinds.{cut, left_trimmed, right_trimmed, all_spaces};
-ghost use Rattle.model.specs.Grammar.{starts_blank, ends_blank, begins_well, ends_well, are_texts, later_pass, pieces_pass};
+ghost use Rattle.model.specs.Grammar.{begins_well, ends_well, are_texts, later_pass, pieces_pass};
 
 use crate::words::cut_at;
 use books::Book;
 
-fn left_trimmed(text: &[u8]) -> &[u8]
+// Without the spaces in front. The library's trimming would take tabs too, which are of the text.
+fn left_trimmed(mut text: &[u8]) -> &[u8]
     ensures { result.now ≡ left_trimmed text.now }
 {
-    let mut rest = text;
-    while let Some((first, behind)) = rest.split_first() {
-        if *first != b' ' {
-            return rest;
-        }
-        rest = behind;
+    while let [b' ', rest @ ..] = text {
+        text = rest;
     }
-    rest
+    text
 }
 
-fn right_trimmed(text: &[u8]) -> &[u8]
+// Without the spaces behind. Two functions, since a pattern says at which end it takes.
+#[tactic(auto, using(crate::proofs::Trimming::trim_back, crate::proofs::Trimming::trim_stop))]
+fn right_trimmed(mut text: &[u8]) -> &[u8]
     ensures { result.now ≡ right_trimmed text.now }
 {
-    let mut rest = text;
-    while let Some((last, before)) = rest.split_last() {
-        if *last != b' ' {
-            return rest;
-        }
-        rest = before;
+    while let [rest @ .., b' '] = text {
+        text = rest;
     }
-    rest
+    text
 }
 
 fn is_blank(text: &[u8]) -> bool
     ensures { result ≡ all_spaces text.now }
 {
-    for c in text {
-        if *c != b' ' {
-            return false;
-        }
-    }
-    true
-}
-
-fn starts_blank(text: &[u8]) -> bool
-    ensures { result ≡ starts_blank text.now }
-{
-    match text.split_first() {
-        Some((first, _)) => *first == b' ',
-        None => false,
-    }
-}
-
-fn ends_blank(text: &[u8]) -> bool
-    ensures { result ≡ ends_blank text.now }
-{
-    match text.split_last() {
-        Some((last, _)) => *last == b' ',
-        None => false,
-    }
+    text.iter().all(|c| *c == b' ')
 }
 
 // What stands behind the last comma.
-fn last_piece(text: &[u8]) -> &[u8]
+#[tactic(auto, using(crate::proofs::Cutting::ends_by_first, crate::proofs::Cutting::whole_piece, model::proofs::Grammars::behind_length))]
+fn last_piece(mut text: &[u8]) -> &[u8]
     ensures { ends_well (cut 44 text.now) ≡ ends_well (result.now ∷ []) }
 {
-    let mut rest = text;
-    loop {
-        let (piece, behind) = cut_at(rest, b',');
-        match behind {
-            Some(behind) => rest = behind,
-            None => return piece,
-        }
+    while let (_, Some(behind)) = cut_at(text, b',') {
+        text = behind;
     }
+    text
 }
 
 fn begins_well(first: &[u8]) -> bool
     ensures { result ≡ begins_well first.now }
 {
-    !starts_blank(first) || is_blank(first)
+    !first.starts_with(b" ") || is_blank(first)
 }
 
+#[tactic(auto, using(crate::proofs::Trimming::ends_with_space))]
 fn ends_well(last: &[u8]) -> bool
     ensures { result ≡ ends_well (last.now ∷ []) }
 {
-    !ends_blank(last) || is_blank(last)
+    !last.ends_with(b" ") || is_blank(last)
 }
 
 // Texts between commas. The spaces beside a comma are not of a text, so one alone neither begins nor ends with a space, and
 // of several the first begins with one, or the last ends with one, only where it is nothing but spaces.
+#[tactic(auto, using(crate::proofs::Cutting::texts_by_first, crate::proofs::Trimming::ends_with_space))]
 pub fn are_texts(text: &[u8]) -> bool
     ensures { result ≡ are_texts (cut 44 text.now) }
 {
-    let (first, rest) = cut_at(text, b',');
-    match rest {
-        Some(rest) => begins_well(first) && ends_well(last_piece(rest)),
-        None => !starts_blank(first) && !ends_blank(first),
+    match cut_at(text, b',') {
+        (first, Some(rest)) => begins_well(first) && ends_well(last_piece(rest)),
+        (only, None) => !only.starts_with(b" ") && !only.ends_with(b" "),
     }
 }
 
 // The words behind the first comma.
-fn are_later_words<B: Book>(book: &B, set: u16, text: &[u8]) -> bool
+#[tactic(auto, using(crate::proofs::Cutting::later_by_first, crate::proofs::Cutting::whole_piece, model::proofs::Grammars::behind_length))]
+fn are_later_words<B: Book>(book: &B, set: u16, mut text: &[u8]) -> bool
     ensures { result ≡ later_pass ((B.meaning book.now).member set) (cut 44 text.now) }
 {
-    let mut rest = text;
-    loop {
-        let (piece, behind) = cut_at(rest, b',');
-        let word = left_trimmed(piece);
-        match behind {
-            Some(behind) => {
-                if !book.member(set, right_trimmed(word)) {
-                    return false;
-                }
-                rest = behind;
-            }
-            None => return book.member(set, word),
+    while let (piece, Some(behind)) = cut_at(text, b',') {
+        if !book.member(set, right_trimmed(left_trimmed(piece))) {
+            return false;
         }
+        text = behind;
     }
+    book.member(set, left_trimmed(text))
 }
 
 // Words of a set between commas. Spaces beside a comma are dropped, and those at the very ends count as part of a word.
+#[tactic(auto, using(crate::proofs::Cutting::words_by_first))]
 pub fn are_words<B: Book>(book: &B, set: u16, text: &[u8]) -> bool
     ensures { result ≡ pieces_pass ((B.meaning book.now).member set) (cut 44 text.now) }
 {
-    let (first, rest) = cut_at(text, b',');
-    match rest {
-        Some(rest) => book.member(set, right_trimmed(first)) && are_later_words(book, set, rest),
-        None => book.member(set, first),
+    match cut_at(text, b',') {
+        (first, Some(rest)) => book.member(set, right_trimmed(first))
+            && are_later_words(book, set, rest),
+        (only, None) => book.member(set, only),
     }
 }

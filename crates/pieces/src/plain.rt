@@ -1,24 +1,19 @@
-ghost use Rattle.std.specs.Prelude.{◌≡◌, not, map};
+ghost use Rattle.std.specs.Prelude.{◌≡◌, map};
 ghost use Rattle.model.specs.Tables.{among};
-ghost use Rattle.model.specs.Kinds.{all_digits, no_tab, slashes};
+ghost use Rattle.model.specs.Kinds.{all_digits};
 ghost use Rattle.model.specs.Grammar.{is_flag, is_integer, is_version, is_person};
 
 // The letter that says that an event took place.
 pub fn is_flag(text: &[u8]) -> bool
     ensures { result ≡ is_flag text.now }
 {
-    text == b"Y".as_slice()
+    matches!(text, b"Y")
 }
 
 fn are_digits(text: &[u8]) -> bool
     ensures { result ≡ all_digits text.now }
 {
-    for c in text {
-        if !c.is_ascii_digit() {
-            return false;
-        }
-    }
-    true
+    text.iter().all(|c| c.is_ascii_digit())
 }
 
 // One digit or more, however many.
@@ -32,48 +27,23 @@ pub fn is_integer(text: &[u8]) -> bool
 pub fn is_version(text: &[u8]) -> bool
     ensures { result ≡ is_version text.now }
 {
-    if text == b"7.0".as_slice() {
-        return true;
-    }
-    match text.strip_prefix(b"7.0.") {
-        Some(patch) => is_integer(patch),
-        None => false,
-    }
-}
-
-fn has_tab(text: &[u8]) -> bool
-    ensures { result ≡ not (no_tab text.now) }
-{
-    text.contains(&b'\t')
-}
-
-fn slashes_in(text: &[u8]) -> usize
-    ensures { result ≡ slashes text.now }
-{
-    let mut count = 0;
-    for c in text {
-        if *c == b'/' {
-            count += 1;
-        }
-    }
-    count
+    matches!(text, b"7.0") || text.strip_prefix(b"7.0.").is_some_and(is_integer)
 }
 
 // A name has no tab, and its surname, where it is marked, stands between two slashes.
+#[tactic(auto, using(crate::proofs::Chains::slashes_by_count, crate::proofs::Chains::tab_by_any))]
 pub fn is_person(text: &[u8]) -> bool
     ensures { result ≡ is_person text.now }
 {
-    !text.is_empty() && !has_tab(text) && matches!(slashes_in(text), 0 | 2)
+    !text.is_empty()
+        && !text.contains(&b'\t')
+        && matches!(text.iter().filter(|c| **c == b'/').count(), 0 | 2)
 }
 
 // Whether a word is among some.
+#[tactic(auto, using(crate::proofs::Chains::among_by_any))]
 pub fn is_one_of(word: &[u8], words: &[&[u8]]) -> bool
     ensures { result ≡ among (map (λ x. x.now) words.now) word.now }
 {
-    for w in words {
-        if *w == word {
-            return true;
-        }
-    }
-    false
+    words.contains(&word)
 }

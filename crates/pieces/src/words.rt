@@ -1,32 +1,18 @@
-ghost use Rattle.std.specs.Prelude.{◌≡◌, [], ◌∷◌, MatchOption};
+ghost use Rattle.std.specs.Prelude.{◌≡◌, ℕ, Bool, List, [], ◌∷◌, MatchOption};
 ghost use Rattle.std.specs.Option.{option_map};
-ghost use Rattle.std.specs.List.{prefix_len};
+ghost use Rattle.std.specs.Fn.{FnOnceReturnsAt};
 ghost use Rattle.model.specs.Kinds.{cut};
-ghost use Rattle.model.specs.Grammar.{other_than, piece, behind, no_more};
-ghost use Rattle.pieces.specs.Words.{words_of, left_of, behind_word};
-
-// Where a byte first stands, or the length where it does not.
-fn place_of(text: &[u8], byte: u8) -> usize
-    ensures { result ≡ prefix_len (other_than byte) text.now }
-{
-    for (i, c) in text.iter().enumerate() {
-        if *c == byte {
-            return i;
-        }
-    }
-    text.len()
-}
+ghost use Rattle.model.specs.Grammar.{piece, behind, no_more};
+ghost use Rattle.pieces.specs.Words.{words_of, left_of, behind_word, behind_if};
 
 // What stands before the first such byte, and what stands behind it. Where there is none, all is before.
 pub fn cut_at(text: &[u8], byte: u8) -> (&[u8], Option<&[u8]>)
     ensures first { result.0.now ≡ piece byte text.now }
     ensures rest { option_map (λ x. x.now) result.1 ≡ behind byte text.now }
 {
-    let end = place_of(text, byte);
-    if end < text.len() {
-        (&text[0..end], Some(&text[end + 1..]))
-    } else {
-        (text, None)
+    match text.iter().position(|c| *c == byte) {
+        Some(end) => (&text[..end], Some(&text[end + 1..])),
+        None => (text, None),
     }
 }
 
@@ -45,6 +31,7 @@ impl<'a> Words<'a> {
     }
 
     // The first word, and those behind it.
+    #[tactic(auto, using(model::proofs::Grammars::cut_step))]
     pub fn split_first(self) -> Option<(&'a [u8], Words<'a>)>
         ensures { MatchOption result (words_of self.entry ≡ []) (λ x. words_of self.entry ≡ x.0.now ∷ words_of x.1) }
     {
@@ -57,9 +44,21 @@ impl<'a> Words<'a> {
         ensures { left_of result ≡ behind_word word.now (words_of self.entry) }
     {
         let (first, rest) = self.split_first()?;
-        if first == word { Some(rest) } else { None }
+        (first == word).then_some(rest)
     }
 
+    // The words behind the first, if that passes the test, or else all of them.
+    pub fn skip_if<P: FnOnce(&[u8]) -> bool>(self, passes: P) -> Words<'a>
+        requires { P.IsAlwaysCallable passes }
+        ensures { (test : List ℕ → Bool) → ((word : List ℕ) (b : Bool) → FnOnceReturnsAt P.FnOnce passes word b → b ≡ test word) → words_of result ≡ behind_if test (words_of self.entry) }
+    {
+        match self.split_first() {
+            Some((word, rest)) if passes(word) => rest,
+            _ => self,
+        }
+    }
+
+    #[tactic(auto, using(model::proofs::Grammars::cut_step))]
     pub fn is_empty(self) -> bool
         ensures { result ≡ no_more (words_of self.entry) }
     {

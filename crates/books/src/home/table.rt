@@ -1,7 +1,8 @@
 ghost use Rattle.std.specs.Prelude.{◌≡◌};
-ghost use Rattle.books.specs.Times.{is_required, is_many};
+ghost use Rattle.books.specs.Times.{is_required};
+ghost use Rattle.books.specs.Entries.{row_of};
 
-use model::Kind;
+use model::{Kind, Row};
 
 // How often a tag may stand among what is under one structure, or at the top.
 #[derive(Clone, Copy)]
@@ -11,29 +12,29 @@ pub enum Times {
     Often,
 }
 
-impl Times {
-    pub fn required(self) -> bool
-        ensures { result ≡ is_required self }
+// A tag, the type that it has where the entry stands, and how often it may stand there. Without the names of its fields an
+// entry of the table fits a line.
+#[derive(Clone, Copy)]
+pub struct Entry(pub &'static [u8], pub u16, pub Times);
+
+impl Entry {
+    pub fn is_required(&self) -> bool
+        ensures { result ≡ is_required self.now.2 }
     {
-        match self {
-            Times::Once => true,
-            Times::AtMostOnce | Times::Often => false,
-        }
+        matches!(self.2, Times::Once)
     }
 
-    pub fn many(self) -> bool
-        ensures { result ≡ is_many self }
+    // What the book says of the tag.
+    pub fn row(&self) -> Row
+        ensures { result ≡ row_of self.now }
     {
-        match self {
-            Times::Often => true,
-            Times::AtMostOnce | Times::Once => false,
+        Row {
+            typed: self.1,
+            required: self.is_required(),
+            many: matches!(self.2, Times::Often),
         }
     }
 }
-
-// A tag, the type that it has where the entry stands, and how often it may stand there.
-#[derive(Clone, Copy)]
-pub struct Entry(pub &'static [u8], pub u16, pub Times);
 
 // The types.
 

@@ -1,20 +1,9 @@
-use Rattle.std.proofs.Common.{ℕ, Bool, eqb, sym, refl, ◌∙◌}
-use Rattle.std.proofs.lemmas.Bool.{eq-eqb, ne_eqb}
-use Rattle.model.specs.Kinds.{all_spaces}
-use Rattle.pieces.proofs.Looping.{Asks, passed, stopped, ended}
+use Rattle.std.proofs.Common.{eqb, sym, ◌∙◌, rules}
+use Rattle.std.proofs.lemmas.Iterator.{YieldsList-from_slice}
+use Rattle.std.proofs.lemmas.Iterator.Search.{all_from_yields_List}
+use borrow.Author.Tests.{tests}
+use Rattle.pieces.proofs.Chains.{spaces_by_all}
 use Rattle.pieces.proofs.list.is_blank.Goals as goal
 
-abbrev is_space : ℕ → Bool
-is_space c = eqb c 32
-
-asks : Asks all_spaces is_space
-asks = record { none = refl; more = λ c cs. refl }
-
-pub returns-then-c-ne32 : goal.returns-then-c-ne32
-returns-then-c-ne32 c = sym (c.loop-c.invariant ∙ stopped all_spaces is_space asks c.args.text.now c.loop-c.c-index c.loop-c-test.true (ne_eqb _ _ c.if-c-ne32.true))
-
-pub loop-c-preserved : goal.loop-c-preserved
-loop-c-preserved c = c.loop-c.invariant ∙ passed all_spaces is_space asks c.args.text.now c.loop-c.c-index c.loop-c-test.true (eq-eqb _ _ c.if-c-ne32.false)
-
 pub returns : goal.returns
-returns c = sym (c.loop-c.invariant ∙ ended all_spaces is_space asks c.args.text.now c.loop-c.c-index c.loop-c-test.false)
+returns c = all_from_yields_List (λ c. eqb c 32) _ _ c.all.result c.all.ensures.ran (YieldsList-from_slice c.args.text.now cc) (λ x b q k. search (rules, tests)) ∙ sym (spaces_by_all c.args.text.now)

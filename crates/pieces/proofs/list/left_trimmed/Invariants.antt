@@ -2,8 +2,8 @@ use Rattle.std.proofs.Common.{◌≡◌, length}
 use Rattle.model.specs.Kinds.{left_trimmed}
 use Rattle.pieces.proofs.list.left_trimmed.Given as goal
 
-abbrev pub invariant-loop-first : goal.invariant-loop-first
-invariant-loop-first l = left_trimmed l.rest ≡ left_trimmed l.text
+abbrev pub invariant-loop-text : goal.invariant-loop-text
+invariant-loop-text l = left_trimmed l.text ≡ left_trimmed l.fn.text
 
-abbrev pub decreases-loop-first : goal.decreases-loop-first
-decreases-loop-first l = length l.rest
+abbrev pub decreases-loop-text : goal.decreases-loop-text
+decreases-loop-text l = length l.text

@@ -2,8 +2,8 @@ use Rattle.std.proofs.Common.{◌≡◌, length}
 use Rattle.model.specs.Kinds.{right_trimmed}
 use Rattle.pieces.proofs.list.right_trimmed.Given as goal
 
-abbrev pub invariant-loop-last : goal.invariant-loop-last
-invariant-loop-last l = right_trimmed l.rest ≡ right_trimmed l.text
+abbrev pub invariant-loop-text : goal.invariant-loop-text
+invariant-loop-text l = right_trimmed l.text ≡ right_trimmed l.fn.text
 
-abbrev pub decreases-loop-last : goal.decreases-loop-last
-decreases-loop-last l = length l.rest
+abbrev pub decreases-loop-text : goal.decreases-loop-text
+decreases-loop-text l = length l.text

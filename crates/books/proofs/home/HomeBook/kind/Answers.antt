@@ -1,9 +1,8 @@
-use Rattle.std.proofs.Common.{sym}
-use Rattle.std.proofs.lemmas.List.{get_or_past}
-use Rattle.std.proofs.lemmas.Bool.{ltb-false}
+use Rattle.std.proofs.Common.{get_or, ap, ◌∙◌, arith}
+use Rattle.std.specs.Option.{unwrap_or}
 use Rattle.model.specs.declared.Kind.TheVariants.{Nothing}
 use Rattle.model.specs.Tables.{home_kinds}
 use Rattle.books.proofs.home.HomeBook.kind.Goals as goal
 
-pub returns-in-None : goal.returns-in-None
-returns-in-None c = sym (get_or_past home_kinds c.args.typed Nothing (ltb-false c.args.typed 35 (sym c.in-None.ensures.lookup.0)))
+pub returns : goal.returns
+returns c = c.unwrap_or.ensures ∙ ap (λ o. unwrap_or o Nothing) c.copied.ensures ∙ c.get.ensures.lookup.4 (omega arith) Nothing ∙ ap (λ n. get_or home_kinds n Nothing) c.from.ensures
