@@ -1,1 +1,1 @@
-pub mod Stripping
+pub mod Naming

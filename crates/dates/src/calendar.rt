@@ -1,4 +1,4 @@
-ghost use Rattle.std.specs.Prelude.{◌≡◌, map};
+ghost use Rattle.std.specs.Prelude.{◌≡◌, Bool, map};
 ghost use Rattle.model.specs.Kinds.{Calendar as Reckoning};
 
 pub mod french_r;
@@ -6,10 +6,13 @@ pub mod gregorian;
 pub mod hebrew;
 pub mod julian;
 
-// A calendar that a date may be written in. A constant has no contract, so beside each stands a function that answers it.
+// A calendar that a date may be written in. A constant of bytes has no value in a contract, so beside those two a function
+// answers it.
 pub trait Calendar {
     // The word before a date.
     const NAME: &'static [u8];
+
+    ghost BCE: { Bool };
 
     // Whether years are also counted back from the first.
     const BCE: bool;
@@ -21,9 +24,8 @@ pub trait Calendar {
     fn full_name() -> &'static [u8]
         ensures { result.now ≡ reckoning.name };
 
-    fn takes_bce() -> bool
-        ensures { result ≡ reckoning.bce };
-
     fn all_months() -> &'static [&'static [u8]]
         ensures { map (λ x. x.now) result.now ≡ reckoning.months };
+
+    ghost counts_back: { BCE ≡ reckoning.bce };
 }

@@ -1,4 +1,4 @@
-ghost use Rattle.std.specs.Prelude.{◌≡◌, ◌&&◌, codes};
+ghost use Rattle.std.specs.Prelude.{◌≡◌};
 ghost use Rattle.std.specs.Str.{bytes_eq};
 ghost use Rattle.model.specs.Kinds.{cut};
 ghost use Rattle.model.specs.Grammar.{is_month, after_epoch, after_year, after_number, after_date_in, after_date, is_date, is_after, is_between, is_period, is_qualified, is_date_value, is_exact};
@@ -17,32 +17,18 @@ fn is_month<C: Calendar>(word: &[u8]) -> bool
     is_one_of(word, C::all_months())
 }
 
-// Whether a word says that a year is before the first, in a calendar that has such years.
-fn is_epoch<C: Calendar>(word: &[u8]) -> bool
-    ensures { result ≡ (C.reckoning.bce && bytes_eq word.now (codes "BCE")) }
-{
-    C::takes_bce() && word == b"BCE".as_slice()
-}
-
 // What is left behind the word for years before the first, if that word stands here and the calendar has such years.
 fn after_epoch<'a, C: Calendar>(words: Words<'a>) -> Words<'a>
     ensures { words_of result ≡ after_epoch C.reckoning (words_of words.entry) }
 {
-    match words.split_first() {
-        Some((word, rest)) if is_epoch::<C>(word) => rest,
-        _ => words,
-    }
+    words.skip_if(|word| C::BCE && word == b"BCE".as_slice())
 }
 
 fn after_year<'a, C: Calendar>(words: Words<'a>) -> Option<Words<'a>>
     ensures { left_of result ≡ after_year C.reckoning (words_of words.entry) }
 {
     let (word, rest) = words.split_first()?;
-    if is_integer(word) {
-        Some(after_epoch::<C>(rest))
-    } else {
-        None
-    }
+    is_integer(word).then_some(after_epoch::<C>(rest))
 }
 
 // Behind a number, which is a day if a month follows it, and else a year.
@@ -97,33 +83,24 @@ fn after_date(words: Words<'_>) -> Option<Words<'_>>
 fn is_date(words: Words<'_>) -> bool
     ensures { result ≡ is_date (words_of words.entry) }
 {
-    match after_date(words) {
-        Some(rest) => rest.is_empty(),
-        None => false,
-    }
+    after_date(words).is_some_and(|rest| rest.is_empty())
 }
 
 // A word and a date.
 fn is_after(word: &[u8], words: Words<'_>) -> bool
     ensures { result ≡ is_after word.now (words_of words.entry) }
 {
-    match words.strip_first(word) {
-        Some(rest) => is_date(rest),
-        None => false,
-    }
+    words.strip_first(word).is_some_and(is_date)
 }
 
 // A word, a date, another word and a date.
 fn is_between(first: &[u8], second: &[u8], words: Words<'_>) -> bool
     ensures { result ≡ is_between first.now second.now (words_of words.entry) }
 {
-    let Some(rest) = words.strip_first(first) else {
-        return false;
-    };
-    match after_date(rest) {
-        Some(rest) => is_after(second, rest),
-        None => false,
-    }
+    words
+        .strip_first(first)
+        .and_then(after_date)
+        .is_some_and(|rest| is_after(second, rest))
 }
 
 fn is_period_in(words: Words<'_>) -> bool
@@ -136,11 +113,9 @@ fn is_period_in(words: Words<'_>) -> bool
 fn is_qualified(words: Words<'_>) -> bool
     ensures { result ≡ is_qualified (words_of words.entry) }
 {
-    match words.split_first() {
-        Some((word, rest)) => is_one_of(word, &[b"AFT", b"BEF", b"ABT", b"CAL", b"EST"])
-            && is_date(rest),
-        None => false,
-    }
+    words.split_first().is_some_and(|(word, rest)| {
+        is_one_of(word, &[b"AFT", b"BEF", b"ABT", b"CAL", b"EST"]) && is_date(rest)
+    })
 }
 
 // From a date, to a date, or both.

@@ -1,3 +1,4 @@
+ghost use Rattle.std.specs.Prelude.{false, refl};
 ghost use Rattle.model.specs.Kinds.{french};
 
 use crate::calendar::Calendar;
@@ -7,6 +8,8 @@ pub struct FrenchR;
 impl Calendar for FrenchR {
     const NAME: &'static [u8] = b"FRENCH_R";
 
+    ghost BCE = { false };
+
     const BCE: bool = false;
 
     const MONTHS: &'static [&'static [u8]] = &[
@@ -14,14 +17,12 @@ impl Calendar for FrenchR {
         b"THER", b"FRUC", b"COMP",
     ];
 
+    ghost counts_back = { refl };
+
     ghost reckoning = { french };
 
     fn full_name() -> &'static [u8] {
         Self::NAME
-    }
-
-    fn takes_bce() -> bool {
-        Self::BCE
     }
 
     fn all_months() -> &'static [&'static [u8]] {

@@ -1,3 +1,4 @@
+ghost use Rattle.std.specs.Prelude.{false, refl};
 ghost use Rattle.model.specs.Kinds.{hebrew};
 
 use crate::calendar::Calendar;
@@ -7,6 +8,8 @@ pub struct Hebrew;
 impl Calendar for Hebrew {
     const NAME: &'static [u8] = b"HEBREW";
 
+    ghost BCE = { false };
+
     const BCE: bool = false;
 
     const MONTHS: &'static [&'static [u8]] = &[
@@ -14,14 +17,12 @@ impl Calendar for Hebrew {
         b"AAV", b"ELL",
     ];
 
+    ghost counts_back = { refl };
+
     ghost reckoning = { hebrew };
 
     fn full_name() -> &'static [u8] {
         Self::NAME
-    }
-
-    fn takes_bce() -> bool {
-        Self::BCE
     }
 
     fn all_months() -> &'static [&'static [u8]] {
