@@ -48,8 +48,7 @@ pub fn append_numbered(
     before: &[u8],
     after: &[u8],
 ) -> Result<(), AllocError> {
-    for i in 0..count {
-        let number = i + 1;
+    for number in 1..=count {
         let digits = format!(in heap; "{number}")?;
         file.extend_from_slice(before)?;
         file.extend_from_slice(digits.as_str().as_bytes())?;

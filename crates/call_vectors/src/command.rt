@@ -1,4 +1,4 @@
-use crate::shelf::{Shelf, shelf_named};
+use books::Shelf;
 use model::{Call, Card, State};
 
 // What one line of a script says. Bytes are still in hexadecimal.
@@ -18,40 +18,25 @@ pub enum Command<'a> {
     Drawer,
     // a call, with a buffer of so many bytes
     Perform(Call, usize),
-    Unknown,
 }
 
 // The first word, and what follows its space.
 fn cut(text: &str) -> (&str, &str) {
-    match text.split_once(' ') {
-        Some(parts) => parts,
-        None => (text, ""),
-    }
+    text.split_once(' ').unwrap_or((text, ""))
 }
 
 fn number(text: &str) -> Option<usize> {
-    match text.parse::<usize>() {
-        Ok(n) => Some(n),
-        Err(_) => None,
-    }
+    text.parse::<usize>().ok()
 }
 
-fn state_of(text: &str) -> Option<State> {
-    match text {
-        "0" => Some(State::Filed),
-        "1" => Some(State::Voided),
-        "2" => Some(State::Emptied),
-        "3" => Some(State::Blank),
-        _ => None,
-    }
-}
+// The states by their numbers.
+const STATES: [State; 4] = [State::Filed, State::Voided, State::Emptied, State::Blank];
 
 fn card_of(byte: &str, state: &str) -> Option<Card> {
-    let Ok(byte) = byte.parse::<u32>() else {
-        return None;
-    };
-    let state = state_of(state)?;
-    Some(Card { byte, state })
+    Some(Card {
+        byte: byte.parse::<u32>().ok()?,
+        state: *STATES.get(number(state)?)?,
+    })
 }
 
 fn add_of(rest: &str) -> Option<Command<'_>> {
@@ -71,13 +56,14 @@ fn more_of(rest: &str) -> Option<Command<'_>> {
     Some(Command::Perform(Call::More(number(card)?, number(further)?), 0))
 }
 
-fn understood(line: &str) -> Option<Command<'_>> {
+// What a line says, or none where it is not understood.
+pub fn understood(line: &str) -> Option<Command<'_>> {
     let (word, rest) = cut(line);
     match word {
         "#" => Some(Command::Name),
         "tree" => Some(Command::Tree(rest)),
         "add" => add_of(rest),
-        "book" => Some(Command::Book(shelf_named(rest)?)),
+        "book" => Some(Command::Book(rest.parse::<Shelf>().ok()?)),
         "cards" => Some(Command::Cards(number(rest)?)),
         "card" => put_of(rest),
         "drawer" => Some(Command::Drawer),
@@ -90,12 +76,5 @@ fn understood(line: &str) -> Option<Command<'_>> {
         "size" => Some(Command::Perform(Call::Size, 0)),
         "write" => Some(Command::Perform(Call::Write, number(rest)?)),
         _ => None,
-    }
-}
-
-pub fn parsed(line: &str) -> Command<'_> {
-    match understood(line) {
-        Some(command) => command,
-        None => Command::Unknown,
     }
 }

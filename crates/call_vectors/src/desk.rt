@@ -1,9 +1,8 @@
 use crate::bytes::{append_numbered, unhexed};
 use crate::command::Command;
-use crate::shelf::Shelf;
-use crate::show::{BLANK, FILLING, show_answer, show_drawer, show_written};
-use crate::trouble::Trouble;
-use calls::Answer;
+use crate::show::{FILLING, show_drawer, show_outcome, show_written};
+use books::Shelf;
+use calls::{Answer, perform};
 use model::{Call, Card};
 use std::alloc::Global;
 
@@ -31,14 +30,12 @@ impl Desk {
     }
 
     // Performs a call with a buffer of so many bytes, and prints its answer.
-    fn perform(&mut self, rt: &HostRuntime, call: Call, room: usize) -> Result<(), Trouble> {
+    fn perform(&mut self, rt: &HostRuntime, call: Call, room: usize) -> anyhow::Result<()> {
         let mut buffer = vec![in rt.alloc(); FILLING; room]?;
-        let answer = self
-            .shelf
-            .perform(&self.file, &mut self.drawer, &mut buffer, call);
-        match (call, answer) {
-            (Call::Write, Answer::Number(size)) => show_written(rt, &buffer, size),
-            (_, answer) => show_answer(rt, answer),
+        let outcome = perform(&self.shelf, &self.file, &mut self.drawer, &mut buffer, call);
+        match (call, outcome) {
+            (Call::Write, Ok(Answer::Number(size))) => show_written(rt, &buffer, size),
+            (_, outcome) => show_outcome(rt, outcome),
         }
     }
 
@@ -47,22 +44,22 @@ impl Desk {
         &mut self,
         rt: &HostRuntime,
         line: &str,
-        asked: Command<'_>,
-    ) -> Result<(), Trouble> {
+        asked: Option<Command<'_>>,
+    ) -> anyhow::Result<()> {
         match asked {
-            Command::Name => println!(rt; "{line}")?,
-            Command::Tree(hex) => self.file = unhexed(rt.alloc(), hex)?,
-            Command::Add(count, before, after) => {
+            Some(Command::Name) => println!(rt; "{line}")?,
+            Some(Command::Tree(hex)) => self.file = unhexed(rt.alloc(), hex)?,
+            Some(Command::Add(count, before, after)) => {
                 let before = unhexed(rt.alloc(), before)?;
                 let after = unhexed(rt.alloc(), after)?;
                 append_numbered(rt.alloc(), &mut self.file, count, &before, &after)?;
             }
-            Command::Book(shelf) => self.shelf = shelf,
-            Command::Cards(count) => self.drawer = vec![in rt.alloc(); BLANK; count]?,
-            Command::Put(place, card) => self.put(place, card),
-            Command::Drawer => show_drawer(rt, self.drawer.as_slice())?,
-            Command::Perform(call, room) => self.perform(rt, call, room)?,
-            Command::Unknown => println!(rt; "not understood: {line}")?,
+            Some(Command::Book(shelf)) => self.shelf = shelf,
+            Some(Command::Cards(count)) => self.drawer = vec![in rt.alloc(); Card::BLANK; count]?,
+            Some(Command::Put(place, card)) => self.put(place, card),
+            Some(Command::Drawer) => show_drawer(rt, self.drawer.as_slice())?,
+            Some(Command::Perform(call, room)) => self.perform(rt, call, room)?,
+            None => println!(rt; "not understood: {line}")?,
         }
         Ok(())
     }

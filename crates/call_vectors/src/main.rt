@@ -5,20 +5,17 @@
 mod bytes;
 mod command;
 mod desk;
-mod shelf;
 mod show;
-mod trouble;
 
-use command::parsed;
+use command::understood;
 use desk::Desk;
 use std::io::{BufRead, BufReader};
-use trouble::Trouble;
 
-fn main(rt: HostRuntime) -> Result<(), Trouble> {
+fn main(rt: HostRuntime) -> anyhow::Result<()> {
     let mut desk = Desk::new(rt.alloc());
     for line in BufReader::new(rt.alloc(), rt.stdin())?.lines(rt.alloc()) {
         let line = line?;
-        desk.carry_out(&rt, line.as_str(), parsed(line.as_str()))?;
+        desk.carry_out(&rt, line.as_str(), understood(line.as_str()))?;
     }
     Ok(())
 }

@@ -1,51 +1,33 @@
 use crate::bytes::hexed;
-use crate::trouble::Trouble;
-use calls::Answer;
+use calls::{Answer, Denial};
 use lines::Payload;
-use model::{Card, Fault, Refusal, State};
+use model::{Card, Fault};
 use viewing::Face;
-
-pub const BLANK: Card = Card {
-    byte: 0,
-    state: State::Blank,
-};
 
 // What each byte of a lent buffer is beforehand.
 pub const FILLING: u8 = 0x2E;
 
-fn state_number(state: State) -> u8 {
-    match state {
-        State::Filed => 0,
-        State::Voided => 1,
-        State::Emptied => 2,
-        State::Blank => 3,
-    }
-}
-
 // The cards up to the last that is not blank.
 fn used(cards: &[Card]) -> &[Card] {
-    let mut count = 0;
-    for i in 0..cards.len() {
-        if cards[i] != BLANK {
-            count = i + 1;
-        }
+    match cards.iter().rposition(|card| *card != Card::BLANK) {
+        Some(last) => &cards[..=last],
+        None => &[],
     }
-    &cards[0..count.min(cards.len())]
 }
 
-pub fn show_drawer(rt: &HostRuntime, drawer: &[Card]) -> Result<(), Trouble> {
+pub fn show_drawer(rt: &HostRuntime, drawer: &[Card]) -> anyhow::Result<()> {
     let length = drawer.len();
     print!(rt; "drawer {length}:")?;
     for card in used(drawer) {
         let byte = card.byte;
-        let state = state_number(card.state);
+        let state = card.state as u8;
         print!(rt; " {byte}.{state}")?;
     }
     println!(rt; "")?;
     Ok(())
 }
 
-fn show_fault(rt: &HostRuntime, fault: Fault) -> Result<(), Trouble> {
+fn show_fault(rt: &HostRuntime, fault: Fault) -> anyhow::Result<()> {
     let number = fault.number;
     let line = fault.line;
     let byte = fault.byte;
@@ -59,32 +41,14 @@ fn show_fault(rt: &HostRuntime, fault: Fault) -> Result<(), Trouble> {
     Ok(())
 }
 
-fn refusal_number(refusal: Refusal) -> u8 {
-    match refusal {
-        Refusal::Unheld => 20,
-        Refusal::Foreign => 21,
-        Refusal::Fixed => 22,
-        Refusal::Held => 23,
-        Refusal::Past => 24,
-        Refusal::Oversized => 25,
-        Refusal::Cramped => 26,
-    }
-}
-
 // Parts of a file that are ASCII by its rules.
 fn ascii(bytes: &[u8]) -> &str {
-    match std::str::from_utf8(bytes) {
-        Ok(text) => text,
-        Err(_) => "?",
-    }
+    std::str::from_utf8(bytes).unwrap_or("?")
 }
 
-fn show_face(rt: &HostRuntime, face: Face<'_>) -> Result<(), Trouble> {
+fn show_face(rt: &HostRuntime, face: Face<'_>) -> anyhow::Result<()> {
     let level = face.level;
-    let identifier = match face.identifier {
-        Some(identifier) => ascii(identifier),
-        None => "-",
-    };
+    let identifier = face.identifier.map_or("-", ascii);
     let tag = ascii(face.tag);
     print!(rt; "card {level} {identifier} {tag} ")?;
     match face.payload {
@@ -102,7 +66,7 @@ fn show_face(rt: &HostRuntime, face: Face<'_>) -> Result<(), Trouble> {
     Ok(())
 }
 
-fn show_line(rt: &HostRuntime, line: Option<&[u8]>) -> Result<(), Trouble> {
+fn show_line(rt: &HostRuntime, line: Option<&[u8]>) -> anyhow::Result<()> {
     match line {
         Some(text) => {
             let text = hexed(rt.alloc(), text)?;
@@ -113,38 +77,34 @@ fn show_line(rt: &HostRuntime, line: Option<&[u8]>) -> Result<(), Trouble> {
     Ok(())
 }
 
-pub fn show_answer(rt: &HostRuntime, answer: Answer<'_>) -> Result<(), Trouble> {
+fn show_answer(rt: &HostRuntime, answer: Answer<'_>) -> anyhow::Result<()> {
     match answer {
-        Answer::Unread(fault) => show_fault(rt, fault.fault()),
-        Answer::Refused(refusal) => {
-            let number = refusal_number(refusal);
+        Answer::Number(number) => println!(rt; "ok {number}")?,
+        Answer::Opened => println!(rt; "ok")?,
+        Answer::Seen(face) => show_face(rt, face)?,
+        Answer::Line(line) => show_line(rt, line)?,
+    }
+    Ok(())
+}
+
+pub fn show_outcome(rt: &HostRuntime, outcome: Result<Answer<'_>, Denial>) -> anyhow::Result<()> {
+    match outcome {
+        Ok(answer) => show_answer(rt, answer),
+        Err(Denial::Unread(fault)) => show_fault(rt, fault.fault()),
+        Err(Denial::Refused(refusal)) => {
+            let number = refusal.number();
             println!(rt; "refused {number}")?;
             Ok(())
         }
-        Answer::Number(number) => {
-            println!(rt; "ok {number}")?;
-            Ok(())
-        }
-        Answer::Opened => {
-            println!(rt; "ok")?;
-            Ok(())
-        }
-        Answer::Seen(face) => show_face(rt, face),
-        Answer::Line(line) => show_line(rt, line),
     }
 }
 
 // Whether the bytes are as they were when the buffer was lent.
 fn are_kept(bytes: &[u8]) -> bool {
-    for b in bytes {
-        if *b != FILLING {
-            return false;
-        }
-    }
-    true
+    bytes.iter().all(|b| *b == FILLING)
 }
 
-pub fn show_written(rt: &HostRuntime, buffer: &[u8], size: usize) -> Result<(), Trouble> {
+pub fn show_written(rt: &HostRuntime, buffer: &[u8], size: usize) -> anyhow::Result<()> {
     let end = size.min(buffer.len());
     let written = hexed(rt.alloc(), &buffer[0..end])?;
     let rest = if are_kept(&buffer[end..]) {

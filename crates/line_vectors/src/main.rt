@@ -5,8 +5,7 @@
 ghost use Rattle.std.specs.Prelude.{◌≤◌};
 
 use lines::LineFault;
-use std::alloc::{AllocError, AllocFailed, Global};
-use std::io;
+use std::alloc::{AllocError, Global};
 use std::io::{BufRead, BufReader};
 
 // Where in an escape the reader stands.
@@ -16,30 +15,6 @@ enum Escape {
     Slash,
     Mark,
     Half(u8),
-}
-
-#[derive(Debug, Drop)]
-enum Trouble {
-    Memory,
-    Streams,
-}
-
-impl From<AllocError> for Trouble {
-    fn from(_: AllocError) -> Trouble {
-        Trouble::Memory
-    }
-}
-
-impl<T: Drop> From<AllocFailed<T>> for Trouble {
-    fn from(_: AllocFailed<T>) -> Trouble {
-        Trouble::Memory
-    }
-}
-
-impl From<io::Error> for Trouble {
-    fn from(_: io::Error) -> Trouble {
-        Trouble::Streams
-    }
 }
 
 fn digit(b: u8) -> u8
@@ -52,7 +27,7 @@ fn digit(b: u8) -> u8
     }
 }
 
-fn unescaped(heap: Global, text: &[u8]) -> Result<Vec<u8>, Trouble> {
+fn unescaped(heap: Global, text: &[u8]) -> Result<Vec<u8>, AllocError> {
     let mut file = Vec::new(heap);
     let mut escape = Escape::None;
     for b in text {
@@ -77,7 +52,7 @@ fn unescaped(heap: Global, text: &[u8]) -> Result<Vec<u8>, Trouble> {
     Ok(file)
 }
 
-fn answer(rt: &HostRuntime, case: &str) -> Result<(), Trouble> {
+fn answer(rt: &HostRuntime, case: &str) -> anyhow::Result<()> {
     let file = unescaped(rt.alloc(), case.as_bytes())?;
     match lines::check(&file) {
         Ok(counts) => {
@@ -97,7 +72,7 @@ fn answer(rt: &HostRuntime, case: &str) -> Result<(), Trouble> {
     Ok(())
 }
 
-fn main(rt: HostRuntime) -> Result<(), Trouble> {
+fn main(rt: HostRuntime) -> anyhow::Result<()> {
     for case in BufReader::new(rt.alloc(), rt.stdin())?.lines(rt.alloc()) {
         answer(&rt, case?.as_str())?;
     }
