@@ -1,8 +1,5 @@
-ghost use Rattle.std.specs.Prelude.{◌≡◌, ◌≤◌, length};
+ghost use Rattle.std.specs.Prelude.{◌≡◌};
 ghost use Rattle.std.specs.Option.{option_map};
-ghost use Rattle.std.specs.Char.{is_ascii_digit};
-ghost use Rattle.std.specs.List.{prefix_len};
-ghost use Rattle.model.specs.Scan.{read_byte};
 ghost use Rattle.model.specs.Grammar.{pair_within, read_pair, read_hour, read_digits, read_fraction, read_seconds, is_zone, is_time};
 
 // Two digits that count at most so many.
@@ -16,20 +13,8 @@ fn is_pair_within(most: u8, tens: u8, ones: u8) -> bool
 fn after_pair(most: u8, text: &[u8]) -> Option<&[u8]>
     ensures { option_map (λ x. x.now) result ≡ read_pair most text.now }
 {
-    let (tens, rest) = text.split_first()?;
-    let (ones, rest) = rest.split_first()?;
-    if is_pair_within(most, *tens, *ones) {
-        Some(rest)
-    } else {
-        None
-    }
-}
-
-fn after_colon(text: &[u8]) -> Option<&[u8]>
-    ensures { option_map (λ x. x.now) result ≡ read_byte 58 text.now }
-{
-    match text.split_first() {
-        Some((b':', rest)) => Some(rest),
+    match text {
+        [tens, ones, rest @ ..] if is_pair_within(most, *tens, *ones) => Some(rest),
         _ => None,
     }
 }
@@ -38,39 +23,18 @@ fn after_colon(text: &[u8]) -> Option<&[u8]>
 fn after_hour(text: &[u8]) -> Option<&[u8]>
     ensures { option_map (λ x. x.now) result ≡ read_hour text.now }
 {
-    let (first, rest) = text.split_first()?;
-    let (second, rest) = rest.split_first()?;
-    if *second == b':' {
-        if first.is_ascii_digit() {
-            Some(rest)
-        } else {
-            None
-        }
-    } else if is_pair_within(23, *first, *second) {
-        after_colon(rest)
-    } else {
-        None
+    match text {
+        [digit, b':', rest @ ..] => digit.is_ascii_digit().then_some(rest),
+        [tens, ones, b':', rest @ ..] if is_pair_within(23, *tens, *ones) => Some(rest),
+        _ => None,
     }
-}
-
-// How many digits stand in front.
-fn digits_before(text: &[u8]) -> usize
-    ensures counts { result ≡ prefix_len is_ascii_digit text.now }
-    ensures within { result ≤ length text.now }
-{
-    for (i, c) in text.iter().enumerate() {
-        if !c.is_ascii_digit() {
-            return i;
-        }
-    }
-    text.len()
 }
 
 // Behind the digits in front, if there is one.
 pub fn after_digits(text: &[u8]) -> Option<&[u8]>
     ensures { option_map (λ x. x.now) result ≡ read_digits text.now }
 {
-    match digits_before(text) {
+    match text.iter().take_while(|c| c.is_ascii_digit()).count() {
         0 => None,
         n => Some(&text[n..]),
     }
@@ -80,8 +44,8 @@ pub fn after_digits(text: &[u8]) -> Option<&[u8]>
 fn after_fraction(text: &[u8]) -> Option<&[u8]>
     ensures { option_map (λ x. x.now) result ≡ read_fraction text.now }
 {
-    match text.split_first() {
-        Some((b'.', rest)) => after_digits(rest),
+    match text {
+        [b'.', rest @ ..] => after_digits(rest),
         _ => Some(text),
     }
 }
@@ -90,8 +54,8 @@ fn after_fraction(text: &[u8]) -> Option<&[u8]>
 fn after_seconds(text: &[u8]) -> Option<&[u8]>
     ensures { option_map (λ x. x.now) result ≡ read_seconds text.now }
 {
-    match text.split_first() {
-        Some((b':', rest)) => after_fraction(after_pair(59, rest)?),
+    match text {
+        [b':', rest @ ..] => after_fraction(after_pair(59, rest)?),
         _ => Some(text),
     }
 }
@@ -100,21 +64,15 @@ fn after_seconds(text: &[u8]) -> Option<&[u8]>
 fn is_zone(text: &[u8]) -> bool
     ensures { result ≡ is_zone text.now }
 {
-    text.is_empty() || text == b"Z".as_slice()
+    matches!(text, b"" | b"Z")
 }
 
 // Hours and minutes, perhaps seconds and their fraction, perhaps a zone.
 pub fn is_time(text: &[u8]) -> bool
     ensures { result ≡ is_time text.now }
 {
-    let Some(minutes) = after_hour(text) else {
-        return false;
-    };
-    let Some(seconds) = after_pair(59, minutes) else {
-        return false;
-    };
-    match after_seconds(seconds) {
-        Some(zone) => is_zone(zone),
-        None => false,
-    }
+    after_hour(text)
+        .and_then(|minutes| after_pair(59, minutes))
+        .and_then(after_seconds)
+        .is_some_and(is_zone)
 }

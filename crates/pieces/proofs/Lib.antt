@@ -1,4 +1,3 @@
 pub mod Chains
 pub mod Cutting
-pub mod Looping
 pub mod Trimming
