@@ -8,6 +8,7 @@ use model::Kind;
 use std::io;
 use std::io::{BufRead, BufReader};
 
+// The kind of a name. A function, since a crate gives `FromStr` to no type of another.
 fn kind_named(name: &str) -> Option<Kind> {
     match name {
         "nothing" => Some(Kind::Nothing),
