@@ -1,6 +1,5 @@
 ghost use Rattle.std.specs.Prelude.{◌≡◌, cond, nat_lt, Some, None};
-ghost use Rattle.model.specs.Books.{Meaning};
-ghost use Rattle.model.specs.Tables.{underscored, open_row, open_layer};
+ghost use Rattle.model.specs.Tables.{open_layer};
 ghost use Rattle.model.proofs.Lawful.{open_lawful};
 
 use super::book::Book;
