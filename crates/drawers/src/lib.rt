@@ -8,4 +8,4 @@ pub use looking::{
     place_at, tag_of,
 };
 pub use model::MOST;
-pub use naming::{NameFault, Named, check_names, find, target_of};
+pub use naming::{NameFault, Named, UNNAMED, check_names, find, target_of};

@@ -1,5 +1,5 @@
 -- The index of identifiers: how it is collected, and what is found in it. Assumes nothing.
-use Rattle.std.proofs.Common.{◌≡◌, ℕ, ◌+◌, ◌-◌, ◌<◌, ◌≤◌, min, List, [], ◌∷◌, map, length, get_or, set, take, Bool, true, false, is_none, Some, None, Option, Ok, Err, Result, Ordering, Less, Equal, Greater, sym, refl, ap, ◌∙◌, subst, inl, inr, true≢false, arith, Bor}
+use Rattle.std.proofs.Common.{◌≡◌, ℕ, ◌+◌, ◌<◌, ◌≤◌, min, List, [], ◌∷◌, map, length, get_or, set, take, Bool, true, false, is_none, Some, None, Option, Ok, Err, Result, Ordering, Less, Equal, Greater, sym, refl, ap, ◌∙◌, subst, inl, inr, true≢false, arith, Bor}
 use lib.ListN.{length-map}
 use Rattle.std.specs.Cmp.{nat_cmp_total, on_total}
 use Rattle.std.specs.Cmp.Lexicographic.{slice_cmp, lists_total}
@@ -11,7 +11,6 @@ use Rattle.std.specs.Result.{result_ok}
 use Rattle.std.proofs.ByRecursion.{All-get_or}
 use Rattle.std.proofs.lemmas.List.{take_all, take_more_set, get_or-map, get_or_default}
 use Rattle.std.proofs.lemmas.List.Sorted.{searchable_from_sorted}
-use Rattle.std.specs.Bool.{MatchBool}
 use Rattle.std.proofs.lemmas.Bool.{cases_lt}
 use Rattle.model.specs.declared.Card.{Card}
 use Rattle.model.specs.Lines.{Line, pointer}
@@ -176,14 +175,14 @@ target_by file c names x (Some k) is f ps l s i = the_target ps names l x k i (i
 -- Cards whose pointers name none
 
 module _ (file : List ℕ) (c : Card) (names : List Name) where
-  -- its pointer names a card, or there is none
-  pub lost_by : (o : Option (Bor (List ℕ))) (r : Bool) → ShowsPointer file c o → MatchOption o (r ≡ false) (λ p. (q : Option ℕ) × FindsName names p.now q × (r ≡ is_none q)) → IsLost file c names r
-  lost_by None r shows e room ps k s i kept = subst (λ b. MatchBool b (Keeps13 (lines_of ps) (place_of ps k) → ⊥) (Keeps13 (lines_of ps) (place_of ps k))) (sym e) (no_name room ps names i kept k (shows (card_line ps k) s))
-  lost_by (Some p) r shows (None, f, e) room ps k s i kept = subst (λ b. MatchBool b (Keeps13 (lines_of ps) (place_of ps k) → ⊥) (Keeps13 (lines_of ps) (place_of ps k))) (sym e) (name_absent room ps names i kept k p.now (shows (card_line ps k) s) (f i.order))
-  lost_by (Some p) r shows (Some j, (a, h, f), e) room ps k s i kept = subst (λ b. MatchBool b (Keeps13 (lines_of ps) (place_of ps k) → ⊥) (Keeps13 (lines_of ps) (place_of ps k))) (sym e) (name_there room ps names i kept k a p.now (shows (card_line ps k) s) h (λ d. (f d).0))
-
   pub lost_told : (r : Bool) → (b : Bool) × IsLost file c names b × (r ≡ b) → IsLost file c names r
   lost_told r (b, lost, e) = subst (IsLost file c names) (sym e) lost
+
+  -- its pointer names a card, or there is none
+  pub lost_by : (o : Option (Bor (List ℕ))) (r : Bool) → ShowsPointer file c o → MatchOption o (r ≡ false) (λ p. (q : Option ℕ) × FindsName names p.now q × (r ≡ is_none q)) → IsLost file c names r
+  lost_by None r shows e = lost_told r (false, (λ room ps k s i kept. no_name room ps names i kept k (shows (card_line ps k) s)), e)
+  lost_by (Some p) r shows (None, f, e) = lost_told r (true, (λ room ps k s i kept. name_absent room ps names i kept k p.now (shows (card_line ps k) s) (f i.order)), e)
+  lost_by (Some p) r shows (Some j, (a, h, f), e) = lost_told r (false, (λ room ps k s i kept. name_there room ps names i kept k a p.now (shows (card_line ps k) s) h (λ d. (f d).0)), e)
 
 module _ (file : List ℕ) (cards : List Card) (names : List Name) where
   -- the first card that is lost

@@ -11,6 +11,9 @@ use model::{Card, State};
 // The identifier of a card, and the card.
 pub type Named<'a> = (&'a [u8], usize);
 
+// What stands in a table before an index does.
+pub const UNNAMED: Named<'static> = (b"", 0);
+
 // Why the identifiers and pointers of the cards are refused, with the first card at which they are.
 #[derive(Clone, Copy, PartialEq, Eq, Debug)]
 pub enum NameFault {

@@ -9,7 +9,7 @@ use filling::{blank_from, fill};
 use judging::{Rule, judge};
 use looking::place_at;
 use model::{Card, MOST, Place};
-use naming::{NameFault, check_names};
+use naming::{NameFault, UNNAMED, check_names};
 
 // Where the line of a card is, if there is such a card.
 fn place_of(file: &[u8], cards: &[Card], card: usize) -> Option<Place>
@@ -53,7 +53,7 @@ fn judge_named<B: Book>(entered: Entered<'_, '_, '_>, book: &B) -> Option<ReadFa
 fn judge_cards<B: Book>(file: &[u8], cards: &[Card], book: &B) -> Option<ReadFault>
     ensures { length cards.now ≤ 65535 → Judges (B.meaning book.now) file.now cards.now result }
 {
-    let mut table = [(&file[..0], 0); MOST];
+    let mut table = [UNNAMED; MOST];
     match check_names(file, cards, &mut table) {
         Ok(names) => judge_named(Entered { file, cards, names }, book),
         Err(fault) => told_of_names(file, cards, fault),

@@ -9,6 +9,7 @@ use crate::entering::enter;
 use books::Book;
 use judging::judge;
 use model::{Card, MOST};
+use naming::UNNAMED;
 use reading::Entered;
 
 // Whether the tree of the entered cards breaks no rule of the book.
@@ -22,7 +23,7 @@ pub fn keeps_rules<B: Book>(entered: Entered<'_, '_, '_>, book: &B) -> bool
 pub fn belongs<B: Book>(file: &[u8], drawer: &[Card], book: &B) -> Option<bool>
     ensures tells { Tells (B.meaning book.now) file.now drawer.now result }
 {
-    let mut table = [(&file[..0], 0); MOST];
+    let mut table = [UNNAMED; MOST];
     let entered = enter(file, drawer, &mut table)?;
     Some(keeps_rules(entered, book))
 }

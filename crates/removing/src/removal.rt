@@ -12,6 +12,7 @@ use books::Book;
 use editing::{apply, edit};
 use judging::Entries;
 use model::{Card, Edit, MOST, Refusal};
+use naming::UNNAMED;
 use reading::Entered;
 
 // What the removal of a card does to the entered cards, or why it is refused. The book comes first, since what a removal
@@ -39,7 +40,7 @@ fn plan_entered<B: Book>(
 fn plan<B: Book>(file: &[u8], drawer: &[Card], book: &B, card: usize) -> Result<Edit, Refusal>
     ensures { Plans (B.meaning book.now) file.now drawer.now card result }
 {
-    let mut table = [(&file[..0], 0); MOST];
+    let mut table = [UNNAMED; MOST];
     let entered = enter(file, drawer, &mut table).ok_or(Refusal::Unheld)?;
     plan_entered(entered, book, card)
 }

@@ -4,12 +4,13 @@ ghost use Rattle.viewing.specs.Views.{Opens};
 use crate::view::View;
 use holding::held;
 use model::{Card, MOST, Refusal};
+use naming::UNNAMED;
 
 // A view of the dataset that the drawer holds, if it holds one of the file. The check is not made again while it stands.
 pub fn open<'f, 'c>(file: &'f [u8], drawer: &'c [Card]) -> Result<View<'f, 'c>, Refusal>
     ensures { Opens file.now drawer.now result }
 {
-    let mut table = [(&file[..0], 0); MOST];
+    let mut table = [UNNAMED; MOST];
     match held(file, drawer, &mut table) {
         Some(_) => Ok(View { file, drawer }),
         None => Err(Refusal::Unheld),

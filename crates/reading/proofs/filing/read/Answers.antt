@@ -1,4 +1,4 @@
-use Rattle.std.proofs.Common.{◌≡◌, ℕ, true, false, List, length, is_err, Ok, Err, Result, sym, refl, rules}
+use Rattle.std.proofs.Common.{◌≡◌, ℕ, true, false, List, length, is_err, Ok, Err, Result, sym, refl}
 use Rattle.std.proofs.lemmas.Bool.{both_ways}
 use Rattle.model.specs.declared.Card.{Card}
 use Rattle.model.specs.Books.{Meaning}
@@ -17,14 +17,8 @@ granting : (m : Meaning) (file : List ℕ) (cards out : List Card) (r : Result �
 granting m file cards out (Ok n) e f = granted m file cards out n f
 granting m file cards out (Err x) e f = absurd (both_ways true e refl)
 
-pub returns-then-is_err : goal.returns-then-is_err
-returns-then-is_err g c = record {
-  reads = refusing (g.B.Book.meaning c.args.book.now) c.args.file.now c.args.drawer.now c.fill_and_judge-answer.new.drawer c.blank_from.new.drawer c.fill_and_judge-answer.result (sym c.if-is_err.ensures.value) c.fill_and_judge-answer.ensures c.blank_from.ensures;
-  long = search rules;
-}
+pub returns-then-is_err-clause-reads : goal.returns-then-is_err-clause-reads
+returns-then-is_err-clause-reads g c = refusing (g.B.Book.meaning c.args.book.now) c.args.file.now c.args.drawer.now c.fill_and_judge-answer.new.drawer c.blank_from.new.drawer c.fill_and_judge-answer.result (sym c.if-is_err.ensures.value) c.fill_and_judge-answer.ensures c.blank_from.ensures
 
-pub returns-else-is_err : goal.returns-else-is_err
-returns-else-is_err g c = record {
-  reads = granting (g.B.Book.meaning c.args.book.now) c.args.file.now c.args.drawer.now c.fill_and_judge-answer.new.drawer c.fill_and_judge-answer.result (sym c.if-is_err.ensures.value) c.fill_and_judge-answer.ensures;
-  long = search rules;
-}
+pub returns-else-is_err-clause-reads : goal.returns-else-is_err-clause-reads
+returns-else-is_err-clause-reads g c = granting (g.B.Book.meaning c.args.book.now) c.args.file.now c.args.drawer.now c.fill_and_judge-answer.new.drawer c.fill_and_judge-answer.result (sym c.if-is_err.ensures.value) c.fill_and_judge-answer.ensures
