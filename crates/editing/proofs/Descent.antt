@@ -1,35 +1,17 @@
 -- One turn of a pass over a row, by position. Assumes nothing.
-use Rattle.std.proofs.Common.{◌≡◌, ℕ, ◌+◌, ◌<◌, ◌≤◌, Bool, true, false, cond, eqb, ltb, List, length, get_or, drop, Some, Option, sym, ap, ◌∙◌, ap₂, arith, drop-drop}
+use Rattle.std.proofs.Common.{◌≡◌, ℕ, ◌+◌, ◌<◌, ◌≤◌, ltb, List, length, get_or, drop, Option, sym, ap, ◌∙◌, ap₂, arith, drop-drop}
 use Rattle.std.proofs.lemmas.List.{drop_more}
-use Rattle.std.proofs.lemmas.Bool.{cond-true, cond-false, ne_eqb, lt-ltb, le-ltb}
+use Rattle.std.proofs.lemmas.Bool.{cond-true, cond-false, lt-ltb, le-ltb}
 use Rattle.model.specs.declared.Context.{Context}
 use Rattle.model.specs.declared.Context.TheVariants.{Top}
-use Rattle.model.specs.declared.Row.{Row}
 use Rattle.model.specs.Books.{Meaning}
 use Rattle.model.specs.Datasets.{Entry, Dataset, entries, HEAD}
 use Rattle.model.specs.Rules.{below}
-use Rattle.model.specs.Removal.{same_type, how_many}
-use Rattle.model.specs.Positions.{type_in, within}
-use Rattle.model.specs.Edits.{block, row_types, edit_row, raised, no_entry, body, edit}
-use Rattle.model.proofs.Flat.{types_more, row_here, row_over, row_jump, body_is, flat_is}
+use Rattle.model.specs.Positions.{within}
+use Rattle.model.specs.Edits.{block, row_types, edit_row, no_entry, body, edit}
+use Rattle.model.proofs.Flat.{row_over, row_jump, body_is, flat_is}
 use Rattle.editing.specs.declared.rows.Siblings.{Siblings}
 use Rattle.editing.specs.Rows.{edit_from}
-
--- The types of a row
-
-module _ (m : Meaning) (b : List Entry) (c : Context) (l t j : ℕ) (h : j < length b) (same : (get_or b j no_entry).level ≡ l) (o : Option Row) (is : o ≡ m.row c (get_or b j no_entry).tag) where
-  abbrev counted : Bool → ℕ
-  counted x = cond x 1 0 + how_many (Some t) (row_types m c l (drop (j + 1) b))
-
-  one_more : (x : Bool) → same_type (Some t) (type_in o) ≡ x → how_many (Some t) (row_types m c l (drop j b)) ≡ counted x
-  one_more x e = ap (how_many (Some t)) (types_more b j l m c h same) ∙ ap counted (ap (λ (y : Option Row). same_type (Some t) (type_in y)) (sym is) ∙ e)
-
-  -- one of the type
-  pub counted_one : same_type (Some t) (type_in o) ≡ true → how_many (Some t) (row_types m c l (drop j b)) ≡ 1 + how_many (Some t) (row_types m c l (drop (j + 1) b))
-  counted_one e = one_more true e
-
-  pub counted_other : same_type (Some t) (type_in o) ≡ false → how_many (Some t) (row_types m c l (drop j b)) ≡ how_many (Some t) (row_types m c l (drop (j + 1) b))
-  counted_other e = one_more false e ∙ omega arith
 
 -- The edit
 
@@ -42,15 +24,6 @@ module _ (m : Meaning) (b : List Entry) (c : Context) (all : List (Option ℕ)) 
   -- a deeper one, and all behind it that are deeper, are passed over
   pub step_over : j < length b → l < (get_or b j no_entry).level → edit_row m c all l (drop j b) j k ≡ edit_row m c all l (drop stop b) stop k
   step_over h deep = ap (λ x. edit_row m c all l x j k) (drop_more b j no_entry h) ∙ row_over m c all l (get_or b j no_entry) (drop (j + 1) b) j k deep ∙ jump
-
-  -- what is removed stands below this one
-  pub step_inside : j < length b → (get_or b j no_entry).level ≡ l → (k ≡ j → ⊥) → k < stop → edit_row m c all l (drop j b) j k ≡ raised m c all (get_or b j no_entry).tag (get_or b j no_entry).payload j stop (edit_row m (below m c (get_or b j no_entry).tag) (row_types m (below m c (get_or b j no_entry).tag) (l + 1) (drop (j + 1) b)) (l + 1) (drop (j + 1) b) (j + 1) k)
-  step_inside h same other inside =
-      let e = get_or b j no_entry in
-      let es = drop (j + 1) b in
-      let under : Context = below m c e.tag in
-      let low : ltb k (j + 1 + block l es) ≡ true = lt-ltb k (j + 1 + block l es) (omega arith) in
-      ap (λ x. edit_row m c all l x j k) (drop_more b j no_entry h) ∙ row_here m c all l e es j k same ∙ cond-false (eqb k j) _ _ (ne_eqb k j other) ∙ cond-true (ltb k (j + 1 + block l es)) _ _ low ∙ ap (λ n. raised m c all e.tag e.payload j n (edit_row m under (row_types m under (l + 1) es) (l + 1) es (j + 1) k)) (sym ends)
 
 -- The rows that a tree begins with
 

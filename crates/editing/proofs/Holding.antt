@@ -1,7 +1,7 @@
 -- What the line of a card shows of the structure that it files, and the cards of a drawer one by one. Assumes nothing.
-use Rattle.std.proofs.Common.{◌≡◌, ℕ, ◌+◌, ◌<◌, Bool, true, false, cond, List, [], ◌∷◌, length, get_or, take, set, IsSomeAnd, Some, None, Option, sym, refl, ap, ◌∙◌, subst, inl, inr, arith}
+use Rattle.std.proofs.Common.{◌≡◌, ℕ, ◌+◌, ◌<◌, Bool, false, cond, List, [], ◌∷◌, length, get_or, take, set, Some, None, Option, sym, refl, ap, ◌∙◌, subst, inl, inr, arith}
 use Rattle.std.proofs.lemmas.List.{set-get_or, take_all}
-use Rattle.std.proofs.lemmas.Bool.{cases_lt, cond-false}
+use Rattle.std.proofs.lemmas.Bool.{cases_lt}
 use Rattle.model.specs.declared.Card.{Card}
 use Rattle.model.specs.declared.State.{State}
 use Rattle.model.specs.declared.State.TheVariants.{Filed, Blank}
@@ -16,15 +16,13 @@ use Rattle.looking.proofs.Drawers.{shown_at, blank_at}
 use Rattle.looking.proofs.Showing.{entry_shows, entry_there}
 use Rattle.editing.specs.Showing.{aims, aims_value, emptied_value}
 
--- The line at the card's byte
+-- The line at the byte of a card as filed shows the payload
 
-pub tells : (file : List ℕ) (c : Card) (e : Entry) (s : Shown file c e) (o : Option Line) → LineAt file c.byte o → IsSomeAnd o (λ v. value_of v.payload ≡ first_value s.files.filed)
-tells file c e s None there = entry_there file c.byte there s.placed _ s.lined s.files.stands
-tells file c e s (Some v) there = (entry_shows file c.byte v there s.placed _ s.lined s.files.stands).value
-
--- a card as filed shows the payload of its line
-pub as_filed : (file : List ℕ) (c : Card) (e : Entry) (s : Shown file c e) → c.state ≡ Filed → s.files.filed ≡ e.payload
-as_filed file c e s is = sym (s.files.shows ∙ ap (λ (x : State). after x s.files.filed) is)
+pub filed_line : (file : List ℕ) (c : Card) (e : Entry) → Shown file c e → c.state ≡ Filed → (o : Option Line) → LineAt file c.byte o → (v : Line) × (o ≡ Some v) × (value_of v.payload ≡ first_value e.payload)
+filed_line file c e s is None there = absurd (entry_there file c.byte there s.placed _ s.lined s.files.stands)
+filed_line file c e s is (Some v) there =
+    let filed : s.files.filed ≡ e.payload = sym (s.files.shows ∙ ap (λ (x : State). after x s.files.filed) is) in
+    (v, refl, (entry_shows file c.byte v there s.placed _ s.lined s.files.stands).value ∙ ap first_value filed)
 
 pub aims_first : (i : List ℕ) (p : Payload) → aims_value i (first_value p) ≡ aims i p
 aims_first i none = refl
@@ -50,7 +48,7 @@ marked_is i (pointer j) c = refl
 
 module _ (file : List ℕ) (cs : List Card) (d : Dataset) (h : Holds file cs d) (k : ℕ) where
   -- a loop that makes pointers void, one card further
-  pub voided_turn : k < length cs → (i : List ℕ) (l : List Card) → l ≡ marked i (take k (entries d)) cs → (r : Bool) → ((e : Entry) → Shown file (get_or l k no_card) e → r ≡ aims i e.payload) → ((get_or l k no_card).state ≡ Blank → r ≡ false) → cond r (set l k (voided_card (get_or l k no_card))) l ≡ marked i (take (k + 1) (entries d)) cs
+  pub voided_turn : k < length cs → (i : List ℕ) (l : List Card) → l ≡ marked i (take k (entries d)) cs → (r : Bool) → ((e : Entry) → Shown file (get_or l k no_card) e → r ≡ aims i e.payload) → ((get_or l k no_card).state ≡ Blank → r ≡ false) → set l k (cond r (voided_card (get_or l k no_card)) (get_or l k no_card)) ≡ marked i (take (k + 1) (entries d)) cs
   voided_turn lt i l is r aimed unnamed =
       let es = entries d in
       let c = get_or cs k no_card in
@@ -59,12 +57,8 @@ module _ (file : List ℕ) (cs : List Card) (d : Dataset) (h : Holds file cs d) 
         | inl inside ↦
             let p = (get_or es k no_entry).payload in
             let e : r ≡ aims i p = aimed (get_or es k no_entry) (subst (λ x. Shown file x (get_or es k no_entry)) (sym here) (shown_at file cs d h k inside)) in
-            as_set r ∙ ap (λ x. set l k (cond r (voided_card x) x)) here ∙ ap (λ b. set l k (cond b (voided_card c) c)) e ∙ ap (λ x. set l k x) (marked_is i p c) ∙ ap (λ x. set x k (marked_card i p c)) is ∙ marked_more i es cs k inside
+            ap (λ x. set l k (cond r (voided_card x) x)) here ∙ ap (λ b. set l k (cond b (voided_card c) c)) e ∙ ap (λ x. set l k x) (marked_is i p c) ∙ ap (λ x. set x k (marked_card i p c)) is ∙ marked_more i es cs k inside
         | inr past ↦
             let e : r ≡ false = unnamed (ap (λ (x : Card). x.state) (here ∙ blank_at file cs d h k past lt)) in
-            cond-false r _ _ e ∙ is ∙ ap (λ x. marked i x cs) (take_all k es past ∙ sym (take_all (k + 1) es (omega arith)))
+            ap (λ b. set l k (cond b (voided_card (get_or l k no_card)) (get_or l k no_card))) e ∙ set-get_or l k no_card ∙ is ∙ ap (λ x. marked i x cs) (take_all k es past ∙ sym (take_all (k + 1) es (omega arith)))
       ]
-    where
-      as_set : (b : Bool) → cond b (set l k (voided_card (get_or l k no_card))) l ≡ set l k (cond b (voided_card (get_or l k no_card)) (get_or l k no_card))
-      as_set true = refl
-      as_set false = sym (set-get_or l k no_card)

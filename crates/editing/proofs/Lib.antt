@@ -1,3 +1,4 @@
+pub mod Blocks
 pub mod Descent
 pub mod Holding
 pub mod Reaching

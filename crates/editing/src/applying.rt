@@ -42,20 +42,14 @@ pub fn apply(file: &[u8], cards: &mut [Card], edit: Edit) -> usize
     ensures held { edit ≡ Edit.Withheld → cards.new ≡ cards.old }
 {
     match edit {
-        Edit::Withheld => 0,
-        Edit::Deleted(from, to) => {
-            if from >= to || to > cards.len() {
-                return 0;
-            }
+        Edit::Deleted(from, to) if from < to && to <= cards.len() => {
             take_out(file, cards, from, to);
             to - from
         }
-        Edit::Cleared(place, to) => {
-            if place >= to || to > cards.len() {
-                return 0;
-            }
+        Edit::Cleared(place, to) if place < to && to <= cards.len() => {
             empty_out(file, cards, place, to);
             to - (place + 1)
         }
+        _ => 0,
     }
 }

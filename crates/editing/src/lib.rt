@@ -8,6 +8,7 @@ mod pointers;
 mod removal;
 mod rows;
 mod states;
+mod tree;
 
 pub use applying::apply;
 pub use removal::edit;

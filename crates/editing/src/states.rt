@@ -24,10 +24,10 @@ fn emptied(file: &[u8], card: Card) -> State
     ensures { (e : Entry) → Shown file.now card e → result ≡ emptied_state e.payload }
 {
     match card.state {
-        State::Filed => match line_at(file, card.byte as usize) {
-            Some(line) => state_without(line.payload),
-            None => State::Emptied,
-        },
+        State::Filed => line_at(file, card.byte as usize).map_or(
+            State::Emptied,
+            |line| state_without(line.payload),
+        ),
         state => state,
     }
 }
@@ -37,9 +37,5 @@ pub fn clear(file: &[u8], cards: &mut [Card], place: usize)
     requires { place < length cards.old }
     ensures { (e : Entry) → Shown file.now (slice_index_or cards.old place no_card) e → cards.new ≡ slice_set cards.old place (emptied_card e.payload (slice_index_or cards.old place no_card)) }
 {
-    let card = cards[place];
-    cards[place] = Card {
-        byte: card.byte,
-        state: emptied(file, card),
-    };
+    cards[place].state = emptied(file, cards[place]);
 }

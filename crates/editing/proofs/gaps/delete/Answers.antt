@@ -1,38 +1,21 @@
-use Rattle.std.proofs.Common.{◌≡◌, ◌+◌, ◌-◌, ◌<◌, length, get_or, drop, set, replicate, sym, ap, ◌∙◌, ap₂, arith, length-drop, get_or-drop}
-use lib.Seq.{paste}
-use Rattle.std.proofs.lemmas.List.Edits.{paste_none, paste_more, fill_from_more}
+use Rattle.std.proofs.Common.{◌≡◌, ℕ, ◌+◌, ◌-◌, ◌≤◌, List, [], ◌++◌, length, replicate, take, drop, ap, ap₂, ◌∙◌, arith, append-nil, drop-drop, length-drop}
+use borrow.Rule.Slice.PartMut.{put_mid}
+use Rattle.std.proofs.Math.Seq.{paste}
+use Rattle.std.proofs.lemmas.List.{take_rest, drop_all}
+use Rattle.std.proofs.lemmas.List.Edits.{take-paste}
 use Rattle.model.specs.Cards.{blank}
-use Rattle.model.specs.Edits.{no_card}
-use Rattle.model.proofs.Editing.{moved_reads, moved_all}
+use Rattle.model.specs.Edits.{without}
 use Rattle.editing.proofs.gaps.delete.Goals as goal
 
-pub loop-i-init : goal.loop-i-init
-loop-i-init c = paste_none c.args.cards.now c.args.from (drop c.args.to c.args.cards.now)
-
-pub loop-i-preserved : goal.loop-i-preserved
-loop-i-preserved c =
-    let cs = c.args.cards.now in
-    let from = c.args.from in
-    let to = c.args.to in
-    let i = c.loop-i.i in
-    let within : to + i < length cs = omega arith in
-    let below : i < length (drop to cs) = omega (arith, length-drop to cs) in
-    ap₂ (λ l x. set l (from + i) x) c.loop-i.invariant (ap (λ l. get_or l (to + i) no_card) c.loop-i.invariant ∙ moved_reads from to cs i no_card c.requires.ordered within ∙ sym (get_or-drop to cs i no_card)) ∙ paste_more cs from (drop to cs) i no_card (omega arith) below
-
-pub loop-j-init : goal.loop-j-init
-loop-j-init c = paste_none c.loop-i.cards (c.args.from + (length c.args.cards.now - c.args.to)) (replicate 0 blank)
-
-pub loop-j-preserved : goal.loop-j-preserved
-loop-j-preserved c =
-    let at = c.args.from + (length c.args.cards.now - c.args.to) in
-    let j = c.loop-j.j in
-    ap (λ l. set l (at + j) blank) c.loop-j.invariant ∙ fill_from_more c.loop-i.cards at j blank (omega arith)
+-- what stands behind a gap has moved up to its start, and the end is filled
+closed : {A : Type 0} (from to end : ℕ) (xs moved fill : List A) (y : A) → from ≤ to → to ≤ length xs → end ≡ from + (length xs - to) → moved ≡ paste xs from (drop to xs) (length xs - to) → length moved ≡ length xs → fill ≡ replicate (length (take (length moved - end) (drop end moved))) y → put_mid end (length moved - end) moved fill ≡ without from to xs ++ replicate (to - from) y
+closed from to end xs moved fill y order inside at m long f =
+    let kept : take end moved ≡ without from to xs = ap₂ take at m ∙ take-paste xs from (drop to xs) (length xs - to) (omega arith) (omega (arith, length-drop to xs)) ∙ ap (λ l. take from xs ++ l) (take_rest xs to) in
+    let none : drop (length moved - end) (drop end moved) ≡ [] = drop-drop (length moved - end) end moved ∙ drop_all (end + (length moved - end)) moved (omega arith) in
+    let gap : length (take (length moved - end) (drop end moved)) ≡ to - from = ap length (take_rest moved end) ∙ omega (arith, length-drop end moved) in
+    ap₂ (λ a b. a ++ b) kept (ap₂ (λ a b. a ++ b) (f ∙ ap (λ n. replicate n y) gap) none ∙ append-nil (replicate (to - from) y))
 
 pub returns : goal.returns
 returns c =
     let cs = c.args.cards.now in
-    let from = c.args.from in
-    let to = c.args.to in
-    let i_is : c.loop-i.i ≡ length cs - to = omega arith in
-    let j_is : c.loop-j.j ≡ to - from = omega arith in
-    c.loop-j.invariant ∙ ap₂ (λ l j. paste l (from + (length cs - to)) (replicate j blank) j) (c.loop-i.invariant ∙ ap (λ i. paste cs from (drop to cs) i) i_is) j_is ∙ moved_all from to cs blank c.requires.ordered c.requires.inside
+    closed c.args.from c.args.to (length cs - (c.args.to - c.args.from)) cs c.copy_within.new.self c.fill.new.self blank c.requires.ordered c.requires.inside (omega arith) c.copy_within.ensures.after c.copy_within.ensures.len (c.fill.ensures.after (λ y same. same))
