@@ -38,10 +38,8 @@ fn start_of(card: Card) -> u32 {
 }
 
 fn put_starts(starts: &mut [u32], cards: &[Card]) {
-    for i in 0..starts.len() {
-        if i < cards.len() {
-            starts[i] = start_of(cards[i]);
-        }
+    for (start, card) in starts.iter_mut().zip(cards) {
+        *start = start_of(*card);
     }
 }
 
@@ -50,11 +48,7 @@ fn put_starts(starts: &mut [u32], cards: &[Card]) {
 // places. The last number is how many cards there are, or the missing type of a refusal.
 #[unsafe(no_mangle)]
 pub extern "C" fn intake_read_home(file: &[u8], starts: &mut [u32], told: &mut u32) -> u64 {
-    let blank = Card {
-        byte: 0,
-        state: State::Blank,
-    };
-    let mut cards = [blank; MOST];
+    let mut cards = [Card::BLANK; MOST];
     let lent = starts.len().min(MOST);
     let drawer = &mut cards[0..lent];
     match read(file, drawer, &Home) {
@@ -66,10 +60,7 @@ pub extern "C" fn intake_read_home(file: &[u8], starts: &mut [u32], told: &mut u
         Err(refused) => {
             put_starts(starts, drawer);
             let fault = refused.fault();
-            *told = match fault.missing {
-                Some(missing) => missing as u32,
-                None => 0,
-            };
+            *told = fault.missing.map_or(0, u32::from);
             packed(fault)
         }
     }
@@ -77,24 +68,18 @@ pub extern "C" fn intake_read_home(file: &[u8], starts: &mut [u32], told: &mut u
 
 // Cards as filed, of the lines that begin at these bytes.
 fn file_cards(cards: &mut [Card], starts: &[u32]) {
-    for i in 0..cards.len() {
-        if i < starts.len() {
-            cards[i] = Card {
-                byte: starts[i],
-                state: State::Filed,
-            };
-        }
+    for (card, start) in cards.iter_mut().zip(starts) {
+        *card = Card {
+            byte: *start,
+            state: State::Filed,
+        };
     }
 }
 
 // Opens a view of cards as filed, and answers how many there are; 0 where it is refused.
 #[unsafe(no_mangle)]
 pub extern "C" fn intake_open(file: &[u8], starts: &[u32]) -> u64 {
-    let blank = Card {
-        byte: 0,
-        state: State::Blank,
-    };
-    let mut cards = [blank; MOST];
+    let mut cards = [Card::BLANK; MOST];
     file_cards(&mut cards, starts);
     match open(file, &cards) {
         Ok(view) => view.count() as u64,
@@ -105,11 +90,7 @@ pub extern "C" fn intake_open(file: &[u8], starts: &[u32]) -> u64 {
 // Opens such a view and writes it, and answers how many bytes that is; 0 where it is refused.
 #[unsafe(no_mangle)]
 pub extern "C" fn intake_write(file: &[u8], starts: &[u32], buffer: &mut [u8]) -> u64 {
-    let blank = Card {
-        byte: 0,
-        state: State::Blank,
-    };
-    let mut cards = [blank; MOST];
+    let mut cards = [Card::BLANK; MOST];
     file_cards(&mut cards, starts);
     match open(file, &cards) {
         Ok(view) => match view.write(buffer) {

@@ -1,5 +1,6 @@
 use crate::messages::sentence;
-use model::Fault;
+use books::NoSuchBook;
+use reading::ReadFault;
 use std::alloc::{AllocError, AllocFailed};
 use std::{fmt, io};
 
@@ -13,7 +14,7 @@ pub enum Failure {
     Unreadable,
     Memory,
     Output,
-    Refused(Fault),
+    Refused(ReadFault),
 }
 
 impl Failure {
@@ -46,11 +47,12 @@ impl fmt::Display for Failure {
             Failure::Output => f.write_str(
                 "intake: the report could not be written; look at where the output goes",
             ),
-            Failure::Refused(fault) => {
+            Failure::Refused(refused) => {
+                let fault = refused.fault();
                 let number = fault.number;
                 let line = fault.line;
                 let byte = fault.byte;
-                let words = sentence(number);
+                let words = sentence(refused);
                 if let Some(typed) = fault.missing {
                     write!(
                         f,
@@ -63,6 +65,18 @@ impl fmt::Display for Failure {
                 }
             }
         }
+    }
+}
+
+impl From<ReadFault> for Failure {
+    fn from(fault: ReadFault) -> Failure {
+        Failure::Refused(fault)
+    }
+}
+
+impl From<NoSuchBook> for Failure {
+    fn from(_: NoSuchBook) -> Failure {
+        Failure::NoBook
     }
 }
 

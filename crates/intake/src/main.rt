@@ -5,12 +5,13 @@
 mod failure;
 mod messages;
 mod report;
-mod shelf;
 
-use characters::LIMIT;
+use books::Shelf;
+use characters::{ByteFault, LIMIT};
 use failure::Failure;
-use model::{Card, MOST, State};
-use shelf::{Shelf, shelf_named};
+use lines::LineFault;
+use model::{Card, MOST};
+use reading::{ReadFault, read};
 use std::process::ExitCode;
 use std::{env, fs};
 
@@ -20,61 +21,45 @@ const USAGE: &str = "usage: intake check [--book home|plain|open] FILE
 
 // The bytes of a file, or why there are none.
 fn load(rt: &HostRuntime, path: &str) -> Result<Vec<u8>, Failure> {
-    let Ok(found) = fs::metadata(rt, path) else {
-        return Err(Failure::Missing);
-    };
+    let found = fs::metadata(rt, path).map_err(|_| Failure::Missing)?;
     if found.is_dir() {
         return Err(Failure::Folder);
     }
     if found.len() > LIMIT as u64 {
-        return Err(Failure::Refused(characters::ByteFault::TooLong.fault()));
+        return Err(ReadFault::from(LineFault::from(ByteFault::TooLong)).into());
     }
-    match fs::read(rt, path) {
-        Ok(bytes) => Ok(bytes),
-        Err(_) => Err(Failure::Unreadable),
-    }
+    fs::read(rt, path).map_err(|_| Failure::Unreadable)
 }
 
 fn check(rt: &HostRuntime, shelf: Shelf, path: &str) -> Result<(), Failure> {
     let file = load(rt, path)?;
-    let counts = match lines::check(&file) {
-        Ok(counts) => counts,
-        Err(fault) => return Err(Failure::Refused(fault.fault())),
-    };
-    let blank = Card {
-        byte: 0,
-        state: State::Blank,
-    };
-    let mut drawer = vec![in rt.alloc(); blank; MOST]?;
-    match shelf.read(&file, &mut drawer) {
-        Ok(count) => {
-            report::file_told(rt, path, &file, counts)?;
-            report::tree_told(
-                rt,
-                shelf,
-                &file,
-                &drawer.as_slice()[0..count.min(drawer.len())],
-            )
-        }
-        Err(fault) => Err(Failure::Refused(fault.fault())),
-    }
+    let counts = lines::check(&file).map_err(ReadFault::from)?;
+    let mut drawer = vec![in rt.alloc(); Card::BLANK; MOST]?;
+    let count = read(&file, &mut drawer, &shelf)?;
+    report::file_told(rt, path, &file, counts)?;
+    report::tree_told(
+        rt,
+        shelf,
+        &file,
+        &drawer.as_slice()[..count.min(drawer.len())],
+    )
 }
 
 fn run(rt: &HostRuntime, words: &[String]) -> Result<(), Failure> {
-    if words.len() < 2 {
-        rt.println(USAGE)?;
-        return Ok(());
+    match words {
+        [] | [_] => {
+            rt.println(USAGE)?;
+            Ok(())
+        }
+        [_, command, path] if command.as_str() == "check" => check(rt, Shelf::Home, path.as_str()),
+        [_, command, option, name, path]
+            if command.as_str() == "check" && option.as_str() == "--book" => check(
+            rt,
+            name.as_str().parse::<Shelf>()?,
+            path.as_str(),
+        ),
+        _ => Err(Failure::Usage),
     }
-    if words.len() == 3 && words[1].as_str() == "check" {
-        return check(rt, Shelf::Home, words[2].as_str());
-    }
-    if words.len() == 5 && words[1].as_str() == "check" && words[2].as_str() == "--book" {
-        return match shelf_named(words[3].as_str()) {
-            Some(shelf) => check(rt, shelf, words[4].as_str()),
-            None => Err(Failure::NoBook),
-        };
-    }
-    Err(Failure::Usage)
 }
 
 // One line on standard error; trouble with a file names it.

@@ -1,5 +1,5 @@
 use crate::failure::Failure;
-use crate::shelf::Shelf;
+use books::Shelf;
 use characters::without_mark;
 use kinds::Content;
 use lines::Counts;
@@ -26,14 +26,10 @@ pub fn file_told(rt: &HostRuntime, path: &str, file: &[u8], counts: Counts) -> R
 
 // One line for each tag at the top, with how many structures have it.
 fn tags_told(rt: &HostRuntime, tags: &[&[u8]]) -> Result<(), Failure> {
-    let mut from = 0;
-    for i in 0..tags.len() {
-        if i + 1 == tags.len() || tags[i] != tags[i + 1] {
-            let many = (i + 1).saturating_sub(from);
-            if let Ok(tag) = std::str::from_utf8(tags[i]) {
-                println!(rt; "  {many} {tag}")?;
-            }
-            from = i + 1;
+    for alike in tags.chunk_by(|one, next| one == next) {
+        let many = alike.len();
+        if let Some(Ok(tag)) = alike.first().map(|tag| std::str::from_utf8(tag)) {
+            println!(rt; "  {many} {tag}")?;
         }
     }
     Ok(())
@@ -46,27 +42,27 @@ pub fn tree_told(
     file: &[u8],
     cards: &[Card],
 ) -> Result<(), Failure> {
-    let name = shelf.name();
     let many = cards.len();
-    println!(rt; "it belongs to the {name} book, with {many} cards; at the top stand")?;
+    println!(rt; "it belongs to the {shelf} book, with {many} cards; at the top stand")?;
     let mut tags = Vec::new(rt.alloc());
-    let mut pointers = 0usize;
-    let mut void = 0usize;
     for card in cards {
         if level_of(file, *card) == 0 {
             tags.push(tag_of(file, *card))?;
         }
-        match content_of(file, *card) {
-            Content::Pointer(_) => pointers = pointers.saturating_add(1),
-            Content::Void => void = void.saturating_add(1),
-            Content::Nothing => {}
-            Content::Line(_) => {}
-            Content::Lines => {}
-        }
     }
     tags.sort_unstable();
     tags_told(rt, &tags)?;
-    let all = pointers.saturating_add(void);
+    let void = cards
+        .iter()
+        .filter(|card| matches!(content_of(file, **card), Content::Void))
+        .count();
+    let all = cards
+        .iter()
+        .filter(|card| matches!(
+            content_of(file, **card),
+            Content::Void | Content::Pointer(_)
+        ))
+        .count();
     println!(rt; "{all} pointers, of which {void} are void")?;
     Ok(())
 }
