@@ -14,8 +14,7 @@ use Rattle.model.specs.Refusals.{lines_of}
 use Rattle.lines.specs.declared.line.Line.{Line}
 use Rattle.lines.specs.Shown.{Shows, value_of}
 use Rattle.looking.specs.Looking.{LineAt}
-use Rattle.holding.specs.Standing.{card, LineOn, OnLine, OnLines, AllowedValue, Top, Fits}
-use Rattle.holding.specs.Matching.{Follows}
+use Rattle.holding.specs.Standing.{card, LineOn, OnLine, OnLines, AllowedValue, Top, Follows, Fits}
 
 pub never : (P : Type 0) → (P → ⊥) → Decides false P
 never P h = (λ e. absurd (true≢false (sym e)), λ p. absurd (h p))

@@ -1,9 +1,11 @@
 -- Whether the cards of a drawer name lines of a file in their order, and fit one another. Assumes nothing.
-use Rattle.std.specs.Prelude.{◌≡◌, ℕ, ◌+◌, ◌<◌, ◌≤◌, List, length, ◌≢◌, slice_index_or}
+use Rattle.std.specs.Prelude.{◌≡◌, ℕ, ◌+◌, ◌<◌, ◌≤◌, Bool, List, length, Decides, Option, MatchOption, ◌≢◌, slice_index_or}
 use Rattle.model.specs.declared.Card.{Card}
 use Rattle.model.specs.declared.State.{State}
 use Rattle.model.specs.declared.State.TheVariants.{Filed, Voided, Emptied, Blank}
 use Rattle.model.specs.Lines.{Line, Value}
+use Rattle.lines.specs.declared.line.Line as read
+use Rattle.lines.specs.Shown.{Shows}
 use Rattle.model.specs.Datasets.{CONT, HEAD, TRLR}
 use Rattle.model.specs.Files.{Placed, at, IsPointer}
 use Rattle.model.specs.Cards.{blank}
@@ -39,6 +41,10 @@ AllowedValue Blank v = ⊥
 
 abbrev pub Top : List ℕ → Line → Type 0
 Top tag l = (l.level ≡ 0) × (l.tag ≡ tag)
+
+-- a line that was read may follow the one of the card before: the first is the header, another is at most one level deeper
+abbrev pub Follows : Option read.Line → read.Line → Bool → Type 0
+Follows before line r = (l : Line) → Shows line l → MatchOption before (Decides r (Top HEAD l)) (λ b. (m : Line) → Shows b m → m.level ≤ 63 → Decides r (l.level ≤ m.level + 1))
 
 -- the card behind k is at most one level deeper, and the last card is the trailer's
 pub record Followed (ps : List Placed) (cards : List Card) (k : ℕ) : Type 0 where

@@ -3,8 +3,7 @@ ghost use Rattle.std.specs.Prelude.{◌≡◌, ◌+◌, ◌<◌, ◌≤◌, List
 ghost use Rattle.model.specs.Lines as model;
 ghost use Rattle.model.specs.Files.{Placed, Passes, IsPointer};
 ghost use Rattle.lines.specs.Shown.{Shows, value_of};
-ghost use Rattle.holding.specs.Standing.{OnLines, AllowedValue, Top, Fits};
-ghost use Rattle.holding.specs.Matching.{Follows};
+ghost use Rattle.holding.specs.Standing.{OnLines, AllowedValue, Top, Follows, Fits};
 
 use lines::{HEAD, Line, Payload, TRLR};
 use looking::line_at;
