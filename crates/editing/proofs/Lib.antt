@@ -1,4 +1,5 @@
 pub mod Blocks
+pub mod Counting
 pub mod Descent
 pub mod Holding
 pub mod Reaching

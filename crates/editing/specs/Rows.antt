@@ -1,5 +1,5 @@
 -- The types in a row, what becomes of a structure in it, and the edit that a removal from it is. Assumes nothing.
-use Rattle.std.specs.Prelude.{ℕ, ◌+◌, Bool, false, cond, not, ◌&&◌, ◌||◌, List, drop, Some, None, Option, ◌==◌}
+use Rattle.std.specs.Prelude.{ℕ, ◌+◌, Bool, false, cond, not, ◌&&◌, ◌||◌, List, length, drop, Some, None, Option, ◌==◌, nat_lt, slice_index_or}
 use Rattle.model.specs.declared.Row.{Row}
 use Rattle.model.specs.declared.Edit.{Edit}
 use Rattle.model.specs.declared.Edit.TheVariants.{Withheld, Deleted, Cleared}
@@ -8,9 +8,9 @@ use Rattle.model.specs.declared.Kind.TheVariants.{Nothing}
 use Rattle.model.specs.Books.{Meaning}
 use Rattle.model.specs.Datasets.{Payload, Entry, end}
 use Rattle.model.specs.Kinds.{may_be_emptied}
-use Rattle.model.specs.Positions.{type_in, within}
+use Rattle.model.specs.Positions.{type_in, within, level_at}
 use Rattle.model.specs.Removal.{same_type, how_many, is_pointer_kind, is_none, is_end, Fate, goes, stays_empty, held}
-use Rattle.model.specs.Edits.{row_types, edit_row}
+use Rattle.model.specs.Edits.{row_types, edit_row, no_entry}
 use Rattle.editing.specs.declared.rows.Siblings.{Siblings}
 
 abbrev pub types_in : Meaning → List Entry → Siblings → List (Option ℕ)
@@ -18,6 +18,10 @@ types_in m b row = row_types m row.context row.level (drop row.first b)
 
 abbrev pub is_typed : ℕ → Option Row → Bool
 is_typed t o = same_type (Some t) (type_in o)
+
+-- a structure of type t stands at position k, in a row of this context and level
+abbrev pub stands_at : Meaning → List Entry → Siblings → ℕ → ℕ → Bool
+stands_at m b row t k = nat_lt k (length b) && (level_at b k == row.level && is_typed t (m.row row.context (slice_index_or b k no_entry).tag))
 
 -- By the row of a structure in the book
 

@@ -1,9 +1,9 @@
 // Rows of structures, by the levels of their cards.
-ghost use Rattle.std.specs.Prelude.{◌≡◌, ◌+◌, ◌<◌, ◌≤◌, List, length, drop, Some, slice_index_or};
+ghost use Rattle.std.specs.Prelude.{◌≡◌, ◌+◌, ◌≤◌, List, drop, Some};
 ghost use Rattle.model.specs.Datasets.{Entry};
-ghost use Rattle.model.specs.Edits.{block, no_entry};
+ghost use Rattle.model.specs.Edits.{block};
 ghost use Rattle.model.specs.Removal.{how_many};
-ghost use Rattle.editing.specs.Rows.{types_in, is_typed};
+ghost use Rattle.editing.specs.Rows.{types_in, stands_at};
 
 use crate::tree::Tree;
 use books::Book;
@@ -30,27 +30,24 @@ impl<B: Book, E: Entries> Tree<'_, B, E> {
             .unwrap_or(from.max(self.count))
     }
 
-    // Whether an entry that stands in the context is of a type.
-    fn is_typed(&self, context: Context, at: usize, typed: u16) -> bool
-        ensures { (b : List Entry) → E.shows self.now.entries.now b → at < length b → result ≡ is_typed typed ((B.meaning self.now.book.now).row context (slice_index_or b at no_entry).tag) }
+    // Whether a structure of a type stands at a position, in a row of this context and level.
+    fn stands(&self, siblings: Siblings, at: usize, typed: u16) -> bool
+        ensures { (b : List Entry) → E.shows self.now.entries.now b → result ≡ stands_at (B.meaning self.now.book.now) b siblings typed at }
     {
-        self.row(context, at).is_some_and(|row| typed == row.typed)
+        at < self.count
+            && self.level(at) == siblings.level
+            && self
+                .row(siblings.context, at)
+                .is_some_and(|row| typed == row.typed)
     }
 
     // How many structures of a type stand in a row.
     pub fn count_typed(&self, siblings: Siblings, typed: u16) -> usize
         ensures { (b : List Entry) → E.shows self.now.entries.now b → result ≡ how_many (Some typed) (types_in (B.meaning self.now.book.now) b siblings) }
     {
-        let mut found = 0;
-        for at in siblings.first..self.count {
-            let level = self.level(at);
-            if level < siblings.level {
-                return found;
-            }
-            if level == siblings.level && self.is_typed(siblings.context, at, typed) {
-                found += 1;
-            }
-        }
-        found
+        (siblings.first..self.count)
+            .take_while(|at| self.level(*at) >= siblings.level)
+            .filter(|at| self.stands(siblings, *at, typed))
+            .count()
     }
 }
