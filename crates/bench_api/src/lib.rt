@@ -2,6 +2,8 @@
 // the file is accepted, and else the number of the refusal, the line and the byte, in this order, in 8, 28 and 28 bits.
 #![tactic(auto)]
 
+// Numbers and no enums, here and below: the C interface needs them.
+
 use books::Home;
 use model::{Card, Fault, MOST, State};
 use reading::read;

@@ -76,6 +76,7 @@ impl FromStr for Shelf {
     }
 }
 
+// A match in each question, since no function may hand out a dyn book.
 impl Book for Shelf {
     ghost meaning = { meaning_of };
 

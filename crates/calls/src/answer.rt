@@ -27,6 +27,7 @@ pub enum Denial {
     Refused(Refusal),
 }
 
+// Both by hand, since a derived one would not say which variant it makes.
 impl From<ReadFault> for Denial {
     ghost from_gives = { λ f r. r ≡ Unread f };
 

@@ -1,5 +1,5 @@
 // One call of any kind, with the promises over every run of calls in its contract. What a user of the library needs is
-// here by name.
+// here by name. The book, the file, the drawer and the buffer stay parameters, since a caller lends them for one call.
 #![tactic(auto)]
 
 mod answer;

@@ -8,6 +8,8 @@ use crate::answer::{Answer, Denial};
 use model::{Call, Card};
 use viewing::open;
 
+// Each is a function of its own, since a closure for what is asked of the view would be no shorter.
+
 // Whether a view can be opened.
 pub fn open_call<'f>(file: &'f [u8], drawer: &[Card]) -> Result<Answer<'f>, Denial>
     ensures { (m : Meaning) → DoesQuietly m file.now drawer.now Call.Open result drawer.now }

@@ -43,6 +43,8 @@ fn goes_second(a: u8, b: u8) -> bool
     b >= least && b < past
 }
 
+// The functions below take the file and a place in it, since the rules speak of places in a file.
+
 // How many bytes the character at `i` has, or none where no character begins there.
 fn width(file: &[u8], i: usize) -> Option<usize>
     requires { (length file.now ≤ 16777216) × (i < length file.now) }

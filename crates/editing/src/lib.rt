@@ -1,4 +1,5 @@
-// What a removal does to the cards of a drawer: the edit that it is, and that edit done.
+// What a removal does to the cards of a drawer: the edit that it is, and that edit done. The cards are lent to be changed, so
+// that they and two positions in them stay parameters.
 #![tactic(auto)]
 
 mod applying;

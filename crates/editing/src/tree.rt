@@ -7,7 +7,8 @@ use books::Book;
 use judging::Entries;
 use model::{Context, Row};
 
-// The entries of a tree, counted, and the book that has their rows.
+// The entries of a tree, counted, and the book that has their rows. Which they are stays a premise of each contract, since
+// `shows` is a relation, and a ghost field holds no list.
 #[derive(Drop)]
 pub struct Tree<'a, B, E: Entries> {
     pub book: &'a B,

@@ -18,6 +18,8 @@ pub fn blank_from(drawer: &mut [Card], from: usize)
     drawer[from..].fill(Card::BLANK);
 }
 
+// The count stays beside the drawer, which is lent and keeps its length: no heap in the eight calls.
+
 // One line more: its card is put at `count`, unless it continues another. None if no card is left for it.
 fn put(drawer: &mut [Card], count: usize, found: Found<'_>) -> Option<usize>
     requires { found.byte < 2 ^ 32 }

@@ -68,6 +68,7 @@ impl fmt::Display for Failure {
     }
 }
 
+// By hand: a derive would ask for a variant with each error inside, and most are told without it.
 impl From<ReadFault> for Failure {
     fn from(fault: ReadFault) -> Failure {
         Failure::Refused(fault)

@@ -15,7 +15,8 @@ use books::Book;
 use kinds::{Content, may_be_emptied, takes};
 use model::Kind;
 
-// The cards of a tree, each marked.
+// The cards of a tree, each marked. Which entries they are of stays a premise, since `shows` is a relation, and a ghost field
+// holds no list.
 #[derive(Drop)]
 pub struct Cards<'a, B, E> {
     pub book: &'a B,

@@ -19,7 +19,7 @@ pub enum Rule {
 }
 
 impl Rule {
-    // The number of the fault that tells it.
+    // The number of the fault that tells it, which people are told: no variant with a payload casts to one.
     pub fn number(&self) -> u8
         ensures { result ≡ rule_number self.now }
     {

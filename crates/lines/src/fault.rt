@@ -44,6 +44,7 @@ impl LineFault {
     }
 }
 
+// By hand, since a derived one would not say which variant it makes.
 impl From<ByteFault> for LineFault {
     ghost from_gives = { λ f r. r ≡ Bytes f };
 

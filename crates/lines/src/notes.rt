@@ -11,7 +11,7 @@ use crate::fault::LineFault;
 use crate::line::{CONC, CONT, HEAD, Line, Payload, TRLR};
 use model::Place;
 
-// What the rules ask of a line.
+// What the rules ask of a line. Flags, since each rule asks of one tag alone.
 #[derive(Clone, Copy)]
 pub struct Seen {
     pub level: u8,
@@ -51,7 +51,7 @@ pub struct Scan {
     pub deepest: u8,
     pub last: Last,
     pub notes: Notes,
-    // whether the last line is a bare trailer, and where it is
+    // whether the last line is a bare trailer, and where it is, which is told of the last line that is none
     pub closed: bool,
     pub here: Place,
 }

@@ -25,6 +25,7 @@ fn scan(file: &[u8]) -> Result<Counts, LineFault>
 {
     let mut cursor = Cursor::new(file);
     let mut scan = Scan::new();
+    // no `for`: the end and bytes that are no line are told apart
     loop {
         match cursor.step() {
             Ok(Some(found)) => scan = scan.after(look(found.line), found.byte as u32),

@@ -1,4 +1,5 @@
-// What the line that a card stands for shows.
+// What the line that a card stands for shows. The file and the card are handed over as they are, since a caller asks one
+// question of each card.
 #![tactic(auto)]
 
 mod further;

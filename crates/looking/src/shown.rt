@@ -76,7 +76,7 @@ pub fn place_at(file: &[u8], byte: usize) -> Place
     place_in(file, byte)
 }
 
-// The level of a card's line, counted up to 100.
+// The level of a card's line, counted up to 100. Of a card that has none nothing is said, so 0 need not be an Option.
 pub fn level_of(file: &[u8], card: Card) -> u8
     ensures { LevelOf file.now card result }
 {

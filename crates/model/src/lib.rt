@@ -28,7 +28,7 @@ impl Card {
 pub const MOST: usize = 65_535;
 
 // What became of a card's line: it stands as filed, its pointer was made void, its payload was taken away, or the card
-// names no line.
+// names no line. No Option of the first three, since a drawer is a table of plain cards that its owner may have damaged.
 #[derive(Clone, Copy, PartialEq, Eq, Debug)]
 pub enum State {
     Filed,
@@ -81,7 +81,7 @@ pub struct Place {
 }
 
 impl Place {
-    // No place in a file.
+    // No place in a file. It is no Option, since a refusal without a place tells these numbers.
     pub const NOWHERE: Place = Place { line: 0, byte: 0 };
 }
 
@@ -123,7 +123,8 @@ impl Refusal {
 }
 
 // What a removal does to the cards, by their positions: nothing, since a structure is held; those from one up to another go;
-// or the one at a place loses its payload, and those behind it up to another go.
+// or the one at a place loses its payload, and those behind it up to another go. No Option of the last two, since a caller takes
+// all three apart in one match.
 #[derive(Clone, Copy, PartialEq, Eq, Debug)]
 pub enum Edit {
     Withheld,

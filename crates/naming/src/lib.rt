@@ -1,4 +1,5 @@
-// The identifiers of a drawer's cards: none stands twice, and every pointer names one of them.
+// The identifiers of a drawer's cards: none stands twice, and every pointer names one of them. The file, the cards and the
+// table of an index stay parameters, since each is lent by another.
 #![tactic(auto)]
 
 ghost use Rattle.std.specs.Prelude.{◌≡◌, ◌<◌, ◌≤◌, length};
@@ -23,6 +24,7 @@ pub enum NameFault {
     Lost(usize),
 }
 
+// Of any card whose byte is a line's; looking's `identifier_of` speaks of a dataset's cards alone.
 fn shown_name(file: &[u8], card: Card) -> Option<&[u8]>
     ensures { ShowsName file.now card result }
 {

@@ -23,6 +23,7 @@ impl<'f, 'c, 'n> Entries for Entered<'f, 'c, 'n> {
         self.cards.len().saturating_sub(1)
     }
 
+    // past the last card any answer will do, so none of these is an Option
     fn level(&self, i: usize) -> u8 {
         match self.cards.get(i) {
             Some(card) => level_of(self.file, *card),

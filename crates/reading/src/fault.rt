@@ -56,6 +56,7 @@ impl ReadFault {
     }
 }
 
+// By hand, since a derived one would not say which variant it makes.
 impl From<LineFault> for ReadFault {
     ghost from_gives = { λ f r. r ≡ Lines f };
 

@@ -65,6 +65,7 @@ fn fill_and_judge<B: Book>(file: &[u8], drawer: &mut [Card], book: &B) -> Result
 {
     lines::check(file)?;
     let count = fill(file, drawer).map_err(ReadFault::NoCard)?;
+    // a count beside the drawer, which is lent and keeps its length: no heap in the eight calls
     let filled = count.min(drawer.len());
     match judge_cards(file, &drawer[..filled], book) {
         Some(fault) => Err(fault),

@@ -3,6 +3,8 @@ ghost use Rattle.model.specs.Datasets.{Dataset};
 
 use model::Card;
 
+// A ghost field of a struct that is copied is a fact and not a value, so a method's contract speaks of whatever dataset is held.
+
 // A drawer that holds a dataset of a file, and that file. Both are lent, so that neither can change while a view stands.
 #[derive(Clone, Copy)]
 pub struct View<'f, 'c> {

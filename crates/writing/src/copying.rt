@@ -1,4 +1,5 @@
-// Bytes that go into a buffer.
+// Bytes that go into a buffer. The buffer and the place in it stay two parameters: with a struct that holds both, what the
+// buffer holds in the end was not proved.
 ghost use Rattle.std.specs.Prelude.{[], ◌∷◌, ◌++◌};
 ghost use Rattle.writing.specs.Written.{Adds};
 
