@@ -2,7 +2,7 @@
 use Rattle.std.proofs.Common.{◌≡◌, ℕ, ◌+◌, List, [], ◌∷◌, ◌++◌, length, drop, sym, ap, ◌∙◌, subst, inl, inr, Ok, Some, None, Option, ◌≤◌}
 use Rattle.std.specs.List.{prefix_len}
 use Rattle.std.proofs.lemmas.List.{drop_all, drop-drop}
-use Rattle.model.specs.Files.{Placed, Lined}
+use Rattle.model.specs.Files.{Placed}
 use Rattle.model.specs.Refusals.{Unlined}
 use Rattle.model.specs.Scan.{in_line}
 use Rattle.model.specs.LineTurns.{Scanned, line_end, found_at}
@@ -28,10 +28,3 @@ module _ (file : List ℕ) (at n at' n' : ℕ) (o : Option Found) (steps : Steps
 
   pub ended : o ≡ None → (length file ≤ at) × Stays at n at' n'
   ended is = subst (λ x. Steps file at n at' n' (Ok x)) is steps
-
-module _ (file : List ℕ) (ps : List Placed) (at' : ℕ) (o : Option Found) (gives : Gives file ps at' (Ok o)) where
-  pub gives_line : (f : Found) → o ≡ Some f → Gives file ps at' (Ok (Some f))
-  gives_line f is = subst (λ x. Gives file ps at' (Ok x)) is gives
-
-  pub gives_end : o ≡ None → Lined file ps
-  gives_end is = subst (λ x. Gives file ps at' (Ok x)) is gives

@@ -1,12 +1,12 @@
 -- The readers of a line's parts, case by case. Assumes nothing.
-use Rattle.std.proofs.Common.{◌≡◌, ℕ, ◌<◌, true, false, cond, eqb, List, [], ◌∷◌, length, get_or, drop, Some, None, codes, Decides, sym, refl, ap, ◌∙◌, inl, inr, arith, eq-eqb}
+use Rattle.std.proofs.Common.{◌≡◌, ℕ, ◌<◌, true, false, cond, List, [], ◌∷◌, length, get_or, drop, Some, None, codes, Decides, refl, ap, ◌∙◌, inl, inr, arith}
 use mathlib.Core.List.{append_cancel_right}
 use Rattle.std.proofs.lemmas.Slice.Eq.{bytes_eq-Decides}
 use Rattle.std.proofs.lemmas.Bool.{cond-true, cond-false, cases_Bool}
 use Rattle.std.proofs.lemmas.Bool.Decides.{nat_tests}
-use Rattle.model.specs.Lines.{void, pointer, text, VOID}
+use Rattle.model.specs.Lines.{void, pointer, VOID}
 use Rattle.model.specs.Removal.{then}
-use Rattle.model.specs.Scan.{read_byte, is_name, read_name, marked, is_void, named, read_identifier, pointed, read_marked, read_payload}
+use Rattle.model.specs.Scan.{read_byte, is_name, read_name, marked, is_void, named, read_identifier, pointed, read_marked}
 
 pub first_is : (b : ℕ) (bs : List ℕ) → 0 < b → get_or bs 0 0 ≡ b → (cs : List ℕ) × (bs ≡ b ∷ cs)
 first_is b [] h e = absurd (omega arith)
@@ -76,10 +76,3 @@ module _ (cs : List ℕ) (other : get_or cs 0 0 ≡ 64 → ⊥) where
     pointer_found e f = last e ∙ ap Some (cond-false (is_void name) _ _ (not_void name f))
 
 -- Values
-
-pub text_marked : (cs : List ℕ) → get_or cs 0 0 ≡ 64 → read_payload (64 ∷ cs) ≡ Some (text cs)
-text_marked [] e = absurd (omega arith)
-text_marked (c ∷ cs) e = cond-true (eqb c 64) _ _ (eq-eqb c 64 e) ∙ ap (λ b. Some (text (b ∷ cs))) (sym e)
-
-pub text_plain : (c : ℕ) (cs : List ℕ) → (c ≡ 64 → ⊥) → read_payload (c ∷ cs) ≡ Some (text (c ∷ cs))
-text_plain c cs f = grind (arith, nat_tests)

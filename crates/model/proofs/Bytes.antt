@@ -210,17 +210,11 @@ lead_encode c real = elim (cases_lt c 128) [
 pub width_none : (a b d e : ℕ) → lead_length a ≡ 0 → width_of a b d e ≡ 0
 width_none a b d e h = grind (arith, nat_tests)
 
-pub width_one : (a b d e : ℕ) → lead_length a ≡ 1 → width_of a b d e ≡ 1
-width_one a b d e h = grind (arith, nat_tests)
-
 pub width_two : (a b d e : ℕ) → lead_length a ≡ 2 → width_of a b d e ≡ cond (is_next b) 2 0
 width_two a b d e h = grind (arith, nat_tests)
 
 pub width_three : (a b d e : ℕ) → lead_length a ≡ 3 → width_of a b d e ≡ cond (is_second a b && is_next d) 3 0
 width_three a b d e h = grind (arith, nat_tests)
-
-pub width_four : (a b d e : ℕ) → lead_length a ≡ 4 → width_of a b d e ≡ cond (is_second a b && (is_next d && is_next e)) 4 0
-width_four a b d e h = grind (arith, nat_tests)
 
 -- In a file
 
@@ -319,13 +313,6 @@ char_at file i h some =
     let s = spelt (get_or file i 0) (get_or file (i + 1) 0) (get_or file (i + 2) 0) (get_or file (i + 3) 0) (width_at file i) some wd in
     let c = cut file i (width_at file i) h some wd in
     record { character = s.character; real = s.real; watched = s.watched; fits = c.fits; begins = c.are ∙ ap (λ l. l ++ drop (i + width_at file i) file) (sym s.are); high = c.high }
-
--- the step stays within the file
-pub width_fits : (file : List ℕ) (i : ℕ) → i < length file → i + width_at file i ≤ length file
-width_fits file i h = elim (cases_lt 0 (width_at file i)) [
-  | inl some ↦ (char_at file i h some).fits
-  | inr stays ↦ omega arith
-]
 
 -- Line ends
 

@@ -1,12 +1,11 @@
 -- Cards to which the edit of a removal is done hold what it leaves. Assumes nothing.
-use Rattle.std.proofs.Common.{◌≡◌, ℕ, zero, suc, ◌+◌, ◌-◌, ◌<◌, ◌≤◌, Bool, true, false, cond, ◌||◌, eqb, leb, List, [], ◌∷◌, ◌++◌, map, length, get_or, take, drop, set, replicate, Some, None, Option, sym, refl, ap, ◌∙◌, subst, ap₂, append_assoc, append-nil, arith, length-append, length-drop, length-set, length-take, length-take-le, get_or-drop, get_or-take, get_or-append-add}
+use Rattle.std.proofs.Common.{◌≡◌, ℕ, zero, suc, ◌+◌, ◌-◌, ◌<◌, ◌≤◌, Bool, true, false, cond, ◌||◌, eqb, leb, List, [], ◌∷◌, ◌++◌, map, length, get_or, take, drop, set, replicate, Some, None, Option, sym, refl, ap, ◌∙◌, subst, ap₂, append_assoc, arith, length-append, length-drop, length-set, length-take, length-take-le, get_or-drop, get_or-take, get_or-append-add}
 use mathlib.Core.List.{map-append}
 use lib.ListN.{length-replicate, get_or-append}
-use lib.Seq.{take-append-le, drop-append-le, set-append_left, map-set_same, paste, drop-paste}
-use Rattle.std.proofs.lemmas.List.Edits.{paste-paste, paste_all}
+use lib.Seq.{take-append-le, drop-append-le, set-append_left, map-set_same}
 use Rattle.std.specs.List.{AllByRecursion}
 use Rattle.std.proofs.ByRecursion.{All-append, All-take, All-drop}
-use Rattle.std.proofs.lemmas.List.{take-map, drop-map, drop_all}
+use Rattle.std.proofs.lemmas.List.{take-map, drop-map}
 use Rattle.std.proofs.lemmas.Bool.{cond-false, or_from, ne_eqb, lt-leb}
 use Rattle.std.specs.Str.{bytes_eq}
 use Rattle.model.specs.declared.Card.{Card}
@@ -363,18 +362,3 @@ marked_ahead i es cs zero d = refl
 marked_ahead i [] cs (suc j) d = refl
 marked_ahead i (e ∷ es) [] (suc j) d = refl
 marked_ahead i (e ∷ es) (c ∷ cs) (suc j) d = marked_ahead i es cs j d
-
--- a loop that moves the cards behind a range down to its start, one by one, reads each as it was
-pub moved_reads : {A : Type 0} (from to : ℕ) (xs : List A) (i : ℕ) (d : A) → from ≤ to → to + i < length xs → get_or (paste xs from (drop to xs) i) (to + i) d ≡ get_or xs (to + i) d
-moved_reads from to xs i d order inside =
-    let there : from + i + (to - from) ≡ to + i = omega arith in
-    ap (λ n. get_or (paste xs from (drop to xs) i) n d) (sym there) ∙ sym (get_or-drop (from + i) (paste xs from (drop to xs) i) (to - from) d) ∙ ap (λ l. get_or l (to - from) d) (drop-paste xs from (drop to xs) i (omega arith) (omega (arith, length-drop to xs))) ∙ get_or-drop (from + i) xs (to - from) d ∙ ap (λ n. get_or xs n d) there
-
--- and with the rest filled, the range is gone
-pub moved_all : {A : Type 0} (from to : ℕ) (xs : List A) (y : A) → from ≤ to → to ≤ length xs → paste (paste xs from (drop to xs) (length xs - to)) (from + (length xs - to)) (replicate (to - from) y) (to - from) ≡ without from to xs ++ replicate (to - from) y
-moved_all from to xs y order inside =
-    let n = length xs - to in
-    let g = to - from in
-    let fill = replicate g y in
-    let long : n + g ≡ length (drop to xs ++ fill) = omega (arith, length-append (drop to xs) fill, length-drop to xs, length-replicate g y) in
-    paste-paste xs from (drop to xs) fill n g (sym (length-drop to xs)) (sym (length-replicate g y)) (omega arith) ∙ paste_all xs from (drop to xs ++ fill) (n + g) long ∙ ap (λ l. take from xs ++ (drop to xs ++ fill ++ l)) (drop_all (from + (n + g)) xs (omega arith)) ∙ ap (λ l. take from xs ++ l) (append-nil (drop to xs ++ fill)) ∙ sym (append_assoc (take from xs) (drop to xs) fill)

@@ -1,6 +1,5 @@
 -- What loops note, turn by turn, and the finding that it makes. Assumes nothing.
 use Rattle.std.proofs.Common.{◌≡◌, ℕ, ◌+◌, ◌<◌, ◌≤◌, List, length, Some, None, Option, sym, refl, ◌∙◌, subst, inl, inr, arith, MatchOption}
-use Rattle.std.specs.List.{ContainsAt as Has}
 use Rattle.std.proofs.lemmas.Bool.{cases_lt, cases_eq}
 use Rattle.model.specs.declared.Context.{Context}
 use Rattle.model.specs.declared.Context.TheVariants.{Top, Under}
@@ -27,10 +26,6 @@ module _ (P : ℕ → Type 0) where
   pub first_stays : (i n j : ℕ) → i ≤ n → FirstOf P i (Some j) → FirstOf P n (Some j)
   first_stays i n j h f = record { within = let w = f.within in omega arith; breaks = f.breaks; before = f.before }
 
-  -- one that goes down
-  pub from_start : (n : ℕ) → FirstOf (From n P) n None
-  from_start n j h low = absurd (omega arith)
-
   from_here : (i j : ℕ) → From (i + 1) P j → P i → From i P j
   from_here i j f p low = elim (cases_eq j i) [ inl e ↦ subst P (sym e) p | inr n ↦ f (let ne : j ≡ i → ⊥ = n in omega arith) ]
 
@@ -53,9 +48,6 @@ module _ (m : Meaning) (b : List Entry) where
 
   pub keeps_row : (rule : BookRule) (i : ℕ) (r : Row) → row_at m b i ≡ Some r → KeepsAt m b rule i → RowKeeps m b rule i r
   keeps_row rule i r e k = subst (λ o. MatchOption o (RowlessKeeps m b rule i) (RowKeeps m b rule i)) e k
-
-  pub row_breaks : (rule : BookRule) (i : ℕ) (r : Row) → row_at m b i ≡ Some r → (RowKeeps m b rule i r → ⊥) → KeepsAt m b rule i → ⊥
-  row_breaks rule i r e n k = n (keeps_row rule i r e k)
 
   pub no_row_breaks : (i : ℕ) → row_at m b i ≡ None → KeepsAt m b known i → ⊥
   no_row_breaks i e k = subst (λ o. MatchOption o (RowlessKeeps m b known i) (RowKeeps m b known i)) e k
@@ -90,19 +82,12 @@ module _ (m : Meaning) (lawful : Lawful m) (c : Context) (ts : List (Option ℕ)
     | inr h ↦ λ t e. never t (sym (lawful.uncounted c j h) ∙ e)
   ]
 
-  -- one turn
-  pub need_met : (j t : ℕ) → m.need c j ≡ Some t → Has ts (Some t) → NeedMet m c ts j
-  need_met j t e has u f = subst (Has ts) (sym e ∙ f) has
-
   pub need_none : (j : ℕ) → m.need c j ≡ None → NeedMet m c ts j
   need_none j e t f = never t (sym e ∙ f)
 
   -- a need is one of the types
   pub need_below : (j t : ℕ) → m.need c j ≡ Some t → t < 1024
   need_below j t e = let low = lawful.need_below c j t e in let few = lawful.few in omega arith
-
-  pub need_missing : (j t : ℕ) → j < m.needs c → m.need c j ≡ Some t → ((k : ℕ) → k < j → NeedMet m c ts k) → (Has ts (Some t) → ⊥) → LackIn m c ts (Some t)
-  need_missing j t h e before b = record { need = j; first = record { within = h; breaks = λ k. b (k t e); before = before }; is = e }
 
 module _ (m : Meaning) (b : List Entry) where
   pub lacks_breaks : (i : ℕ) (r : Row) (t : ℕ) → row_at m b i ≡ Some r → Lacks m (Under r.typed) (under_at m b i) t → KeepsAt m b needed i → ⊥

@@ -156,9 +156,6 @@ module _ (m : Meaning) (b : List Entry) (i : ℕ) (r : Row) where
   pub single_new : (x : Bool) → Decides x (Has (before_at m b i) (Some r.typed)) → x ≡ false → RowKeeps m b single i r
   single_new x d e has = absurd (both_ways x e (d.1 has))
 
-  pub single_broken : (x : Bool) → Decides x (Has (before_at m b i) (Some r.typed)) → x ≡ true → r.many ≡ false → RowKeeps m b single i r → ⊥
-  single_broken x d e f k = both_ways r.many f (k (d.0 e))
-
   pub filled_header : i ≡ 0 → RowKeeps m b filled i r
   filled_header e bare = inl e
 

@@ -36,9 +36,6 @@ gathered_more ps i p n k names h e is g =
     subst (λ xs. Gathered ps (k + 1) xs) (sym (take_more_set names n (p, k) h))
     (collected_more (λ (e : Name). e.0.now) (λ (e : Name). e.1) ps k (take n names) (p, k) refl (sym is ∙ ap (option_map (λ (p : Bor (List ℕ)). p.now)) e) g)
 
-pub gathered_none : (ps : List Placed) → Gathered ps 0 []
-gathered_none ps = collected_none (λ (e : Name). e.0.now) (λ (e : Name). e.1) ps
-
 -- In order
 
 indexed_by : (ps : List Placed) (xs ys : List Name) → Gathered ps (length (others ps)) xs → IsPermutation xs ys → InOrder ys → Gathered ps (length (others ps)) ys → Indexed ByteLess ps (map (λ e. e.1) ys)
