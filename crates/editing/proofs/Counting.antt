@@ -68,19 +68,19 @@ module _ (a e len rlen : ℕ) (qat rat : ℕ → Option ℕ) (same : (k : ℕ) �
   walked items reads k h = same_Some _ _ (sym (reads k 0 h) ∙ ap (option_map (λ y. y)) (here k h))
 
   module _ (bound : (k : ℕ) → IfSome (rat k) (λ x. (x ≡ a + k) × (x < e))) where
-    pub kept_to : (P Q : ℕ → Type 0) → ((x : ℕ) → P x → Q x) → ((k : ℕ) → IfSome (qat k) P) → (k : ℕ) → a ≤ k → k < a + len → (k < e) × Q k
+    pub kept_to : (P Q : ℕ → Type 0) → ((x : ℕ) → x < e → P x → Q x) → ((k : ℕ) → IfSome (qat k) P) → (k : ℕ) → a ≤ k → k < a + len → (k < e) × Q k
     kept_to P Q told kept k low h =
         let i = k - a in
         let at : a + i ≡ k = omega arith in
         let p : P (a + i) = subst (λ o. IfSome o P) (here i (omega arith)) (kept i) in
         let less : (a + i ≡ a + i) × (a + i < e) = subst (λ o. IfSome o (λ x. (x ≡ a + i) × (x < e))) (same i (omega arith) ∙ here i (omega arith)) (bound i) in
-        (let l = less.1 in omega arith, subst Q at (told (a + i) p))
+        (let l = less.1 in omega arith, subst Q at (told (a + i) less.1 p))
 
-    pub stopped : (P Q : ℕ → Type 0) (whole : Bool) → ((x : ℕ) → P x → Q x) → (whole ≡ true → rlen ≡ e - a) → MatchOption (rat len) ((whole ≡ true) × (rlen ≡ len)) P → e ≤ a + len ⊎ (a + len < e) × Q (a + len)
+    pub stopped : (P Q : ℕ → Type 0) (whole : Bool) → ((x : ℕ) → x < e → P x → Q x) → (whole ≡ true → rlen ≡ e - a) → MatchOption (rat len) ((whole ≡ true) × (rlen ≡ len)) P → e ≤ a + len ⊎ (a + len < e) × Q (a + len)
     stopped P Q whole told all = go (rat len) refl
       where
         go : (o : Option ℕ) → rat len ≡ o → MatchOption o ((whole ≡ true) × (rlen ≡ len)) P → e ≤ a + len ⊎ (a + len < e) × Q (a + len)
         go None is (w, l) = inl (let all_of = all w in omega arith)
         go (Some x) is p =
             let (at, less) = subst (λ o. IfSome o (λ x. (x ≡ a + len) × (x < e))) is (bound len) in
-            inr (omega arith, subst Q at (told x p))
+            inr (omega arith, subst Q at (told x less p))

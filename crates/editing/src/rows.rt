@@ -25,9 +25,8 @@ impl<B: Book, E: Entries> Tree<'_, B, E> {
         ensures low { from ≤ result }
         ensures ends { (b : List Entry) → E.shows self.now.entries.now b → result ≡ from + block level (drop from b) }
     {
-        (from..self.count)
-            .find(|at| self.level(*at) <= level)
-            .unwrap_or(from.max(self.count))
+        let deeper = (from..self.count).take_while(|at| self.level(*at) > level);
+        from + deeper.count()
     }
 
     // Whether a structure of a type stands at a position, in a row of this context and level.
@@ -45,9 +44,7 @@ impl<B: Book, E: Entries> Tree<'_, B, E> {
     pub fn count_typed(&self, siblings: Siblings, typed: u16) -> usize
         ensures { (b : List Entry) → E.shows self.now.entries.now b → result ≡ how_many (Some typed) (types_in (B.meaning self.now.book.now) b siblings) }
     {
-        (siblings.first..self.count)
-            .take_while(|at| self.level(*at) >= siblings.level)
-            .filter(|at| self.stands(siblings, *at, typed))
-            .count()
+        let row = (siblings.first..self.count).take_while(|at| self.level(*at) >= siblings.level);
+        row.filter(|at| self.stands(siblings, *at, typed)).count()
     }
 }

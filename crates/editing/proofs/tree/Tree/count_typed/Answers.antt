@@ -1,4 +1,4 @@
-use Rattle.std.proofs.Common.{◌≡◌, ℕ, Bool, ◌+◌, ◌<◌, ◌≤◌, ◌⊎◌, length, filter, subst, sym, ap, ◌∙◌, inl, inr, arith, rules}
+use Rattle.std.proofs.Common.{◌≡◌, ℕ, Bool, ◌<◌, ◌≤◌, length, filter, subst, sym, ap, ◌∙◌, rules}
 use borrow.Author.Tests.{tests}
 use Rattle.std.specs.List.{range_with_len}
 use Rattle.std.specs.Iterator.Runs.{ItemsCountUp}
@@ -14,19 +14,15 @@ returns g c b s =
     let m = g.B.Book.meaning c.args.self.now.book.now in
     let row = c.args.siblings in
     let first = row.first in
-    let count = c.args.self.now.count in
-    let long = c.args.self.now.counted b s in
     let test : ℕ → Bool = stands_at m b row c.args.typed in
     let u = c.count.ensures.runs in
     let q = c.filter.ensures.runs u.0 u.0.seen u.1 in
     let filtered = q.2.4 test (λ x r f k. search rules) in
-    let r = c.take_while.ensures.runs q.0 q.0.seen q.1 in
+    let r = c.take_while-row.ensures.runs q.0 q.0.seen q.1 in
     let taken = r.2.2 (λ x y f k. search rules) in
-    let ups : ItemsCountUp r.0 first count = subst (λ (w : Range ℕ). ItemsCountUp r.0 w.start w.end) r.1 (range_runs r.0 r.0.seen) in
+    let ups : ItemsCountUp r.0 first (length b) = subst (ItemsCountUp r.0 first) (c.args.self.now.counted b s) (subst (λ (w : Range ℕ). ItemsCountUp r.0 w.start w.end) r.1 (range_runs r.0 r.0.seen)) in
     let n = q.0.len in
-    let items : q.0.items ≡ range_with_len first n = counts_up q.0.items first n (sym q.0.long) (walked first count n r.0.len q.0.at r.0.at r.2.1 r.2.0 ups.3 q.0.items q.0.reads) in
-    let deep : (k : ℕ) → first ≤ k → k < first + n → (k < count) × (k < length b → row.level ≤ level_at b k) = kept_to first count n r.0.len q.0.at r.0.at r.2.1 r.2.0 ups.3 ups.2 _ (λ x. x < length b → row.level ≤ level_at b x) (λ x h lt. search (rules, tests)) taken.0 in
-    let end : (count ≤ first + n) ⊎ ((first + n < count) × (first + n < length b → level_at b (first + n) < row.level)) = stopped first count n r.0.len q.0.at r.0.at r.2.1 r.2.0 ups.3 ups.2 _ (λ x. x < length b → level_at b x < row.level) r.0.whole (λ x h lt. search (rules, tests)) ups.1 (taken.1 (q.2.0 ∙ u.2)) in
-    u.3 ∙ u.0.long ∙ ap length (filtered ∙ ap (filter test) items) ∙ counted m b row c.args.typed n first
-    (λ k low h. let d = deep k low h in let within : k < length b = (let less = d.0 in omega arith) in (within, d.1 within))
-    (elim end [ inl over ↦ inl (omega arith) | inr e ↦ inr (let within : first + n < length b = (let less = e.0 in omega arith) in (within, e.1 within)) ])
+    let items : q.0.items ≡ range_with_len first n = counts_up q.0.items first n (sym q.0.long) (walked first (length b) n r.0.len q.0.at r.0.at r.2.1 r.2.0 ups.3 q.0.items q.0.reads) in
+    let deep = kept_to first (length b) n r.0.len q.0.at r.0.at r.2.1 r.2.0 ups.3 ups.2 _ (λ x. row.level ≤ level_at b x) (λ x lt h. search (rules, tests)) taken.0 in
+    let end = stopped first (length b) n r.0.len q.0.at r.0.at r.2.1 r.2.0 ups.3 ups.2 _ (λ x. level_at b x < row.level) r.0.whole (λ x lt h. search (rules, tests)) ups.1 (taken.1 (q.2.0 ∙ u.2)) in
+    u.3 ∙ u.0.long ∙ ap length (filtered ∙ ap (filter test) items) ∙ counted m b row c.args.typed n first deep end
