@@ -20,7 +20,7 @@ use Rattle.model.specs.Refusals.{lines_of, others, apart, aimed, Keeps13, LineKe
 use Rattle.model.specs.LineTurns.{Noted, RulesKept}
 use Rattle.model.specs.Index.{place_of, card_line, card_spot, key, name_of, CardsNoted, Indexed, LeastRepeat}
 use Rattle.model.proofs.Index.{apart_noted, card_aimed, card_lost, card_pointless, aimed_noted, least_same}
-use Rattle.model.proofs.Sorting.{Collected, collected_none, collected_skip, collected_more, collected_shuffled, sorted_indexed, byte_strict, byte_total}
+use Rattle.model.proofs.Sorting.{Collected, collected_skip, collected_more, collected_shuffled, sorted_indexed, byte_strict, byte_total}
 use Rattle.naming.specs.Naming.{Name, ByteLess, InOrder, IndexOf, LeastName, Target, FindsName, TargetOf, CardShows, ShowsPointer, IsLost, FindsLost}
 
 abbrev pub Gathered : List Placed → ℕ → List Name → Type 0
