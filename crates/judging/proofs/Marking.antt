@@ -40,6 +40,10 @@ module _ (m : Meaning) (b : List Entry) (marks : List Mark) where
   pub marked_known : (n : ℕ) → MarkedTo m b marks n → (i : ℕ) → i < n → KeepsAt m b known i
   marked_known n t i h = row_keeps m b known i (get_or marks i no_mark).row (t.row i h) tt
 
+  -- a test of a rule at entry i, by its row
+  pub decides_row : Marked m b marks → (rule : BookRule) (i : ℕ) → i < length b → (x : Bool) → Decides x (RowKeeps m b rule i (get_or marks i no_mark).row) → Decides x (KeepsAt m b rule i)
+  decides_row t rule i h x d = Decides-like x (row_keeps m b rule i (get_or marks i no_mark).row (t.all.row i h)) (keeps_row m b rule i (get_or marks i no_mark).row (t.all.row i h)) d
+
   -- a test of rule 16, by the record that a pointer of a pointer kind names
   pub aimed_test : Marked m b marks → (i : ℕ) → i < length marks → (u : ℕ) → m.kind (get_or marks i no_mark).row.typed ≡ Pointer u → (o : Option ℕ) → Targets b i o → (x : Bool) → (o ≡ None → x ≡ true) → ((j : ℕ) → o ≡ Some j → j < length marks → x ≡ eqb (get_or marks j no_mark).row.typed u) → Decides x (KeepsAt m b aimed_right i)
   aimed_test t i h u kind None none x free is =
