@@ -1,10 +1,9 @@
 -- The written form of a card by its state. Assumes nothing.
-use Rattle.std.proofs.Common.{◌≡◌, ℕ, ◌+◌, ◌-◌, Bool, true, false, cond, eqb, List, [], ◌∷◌, ◌++◌, length, get_or, take, None, sym, refl, ap, ◌∙◌, subst, append_assoc, append-nil, arith, length-append}
-use Rattle.std.proofs.lemmas.List.{take_at}
+use Rattle.std.proofs.Common.{◌≡◌, ℕ, ◌+◌, Bool, true, false, cond, eqb, List, [], ◌∷◌, ◌++◌, length, get_or, None, sym, refl, ap, ◌∙◌, subst, append_assoc, append-nil, arith, length-append}
 use Rattle.model.specs.declared.Card.{Card}
 use Rattle.model.specs.declared.State.{State}
 use Rattle.model.specs.declared.State.TheVariants.{Filed, Voided, Emptied, Blank}
-use Rattle.model.specs.Lines.{Line, VOID, line_of, spell, spell_value, escaped}
+use Rattle.model.specs.Lines.{Line, VOID, line_of, spell, escaped}
 use Rattle.model.specs.Datasets.{CONT, text_value, continuations, entry, Entry, with_line_feeds}
 use Rattle.model.specs.Cards.{after, Allowed}
 use Rattle.looking.specs.Looking.{Shown}
@@ -43,12 +42,6 @@ long_escaped (x ∷ xs) = go (eqb x 64)
     go : (b : Bool) → length (cond b (64 ∷ x ∷ xs) (x ∷ xs)) ≡ cond b 1 0 + length (x ∷ xs)
     go true = omega arith
     go false = omega arith
-
-pub head_taken : (l : Line) (bytes : List ℕ) (n : ℕ) → bytes ≡ spell l → n ≡ length bytes - length (spell_value l.value) → take n bytes ≡ head_of l
-head_taken l bytes n e is =
-    let long = length-append (head_of l) (spell_value l.value) in
-    let whole = ap length e in
-    ap (take n) e ∙ take_at (head_of l) (spell_value l.value) n (omega arith)
 
 -- Its lines
 
