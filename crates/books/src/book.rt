@@ -4,7 +4,7 @@ ghost use Rattle.model.specs.Books.{Meaning, Lawful};
 use model::{Context, Kind, Row};
 
 // A book of rules. A context is the top of a tree or a type of structure; types are numbered from 0. The meaning of a
-// book is what it answers to these six questions, and asking changes nothing. What a question is of are its parameters.
+// book is what it answers to these six questions, and asking changes nothing. Each takes what it asks about.
 pub trait Book {
     ghost meaning: { Self → Meaning };
 

@@ -1,10 +1,9 @@
 use books::{Book, NoSuchBook, Shelf};
 use model::{Context, Kind};
-use std::process::Abort;
 
 // The book of a name asks what it should, and prints as that name.
 fn names(
-    rt: &(impl Abort + AllocGlobal),
+    rt: &HostRuntime,
     name: &str,
     shelf: Shelf,
     types: usize,

@@ -29,13 +29,21 @@ fn number(text: &str) -> Option<usize> {
     text.parse::<usize>().ok()
 }
 
-// The states by their numbers.
-const STATES: [State; 4] = [State::Filed, State::Voided, State::Emptied, State::Blank];
+// A state by its number in a script.
+fn state_of(text: &str) -> Option<State> {
+    match text {
+        "0" => Some(State::Filed),
+        "1" => Some(State::Voided),
+        "2" => Some(State::Emptied),
+        "3" => Some(State::Blank),
+        _ => None,
+    }
+}
 
 fn card_of(byte: &str, state: &str) -> Option<Card> {
     Some(Card {
         byte: byte.parse::<u32>().ok()?,
-        state: *STATES.get(number(state)?)?,
+        state: state_of(state)?,
     })
 }
 

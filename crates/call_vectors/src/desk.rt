@@ -1,6 +1,7 @@
 use crate::bytes::{append_numbered, unhexed};
 use crate::command::Command;
 use crate::show::{FILLING, show_drawer, show_outcome, show_written};
+use crate::trouble::Trouble;
 use books::Shelf;
 use calls::{Answer, perform};
 use model::{Call, Card};
@@ -30,7 +31,7 @@ impl Desk {
     }
 
     // Performs a call with a buffer of so many bytes, and prints its answer.
-    fn perform(&mut self, rt: &HostRuntime, call: Call, room: usize) -> anyhow::Result<()> {
+    fn perform(&mut self, rt: &HostRuntime, call: Call, room: usize) -> Result<(), Trouble> {
         let mut buffer = vec![in rt.alloc(); FILLING; room]?;
         let outcome = perform(&self.shelf, &self.file, &mut self.drawer, &mut buffer, call);
         match (call, outcome) {
@@ -45,7 +46,7 @@ impl Desk {
         rt: &HostRuntime,
         line: &str,
         asked: Option<Command<'_>>,
-    ) -> anyhow::Result<()> {
+    ) -> Result<(), Trouble> {
         match asked {
             Some(Command::Name) => println!(rt; "{line}")?,
             Some(Command::Tree(hex)) => self.file = unhexed(rt.alloc(), hex)?,

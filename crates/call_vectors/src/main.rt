@@ -6,12 +6,14 @@ mod bytes;
 mod command;
 mod desk;
 mod show;
+mod trouble;
 
 use command::understood;
 use desk::Desk;
 use std::io::{BufRead, BufReader};
+use trouble::Trouble;
 
-fn main(rt: HostRuntime) -> anyhow::Result<()> {
+fn main(rt: HostRuntime) -> Result<(), Trouble> {
     let mut desk = Desk::new(rt.alloc());
     for line in BufReader::new(rt.alloc(), rt.stdin())?.lines(rt.alloc()) {
         let line = line?;

@@ -1,4 +1,5 @@
 use crate::bytes::hexed;
+use crate::trouble::Trouble;
 use calls::{Answer, Denial};
 use lines::Payload;
 use model::{Card, Fault};
@@ -15,7 +16,7 @@ fn used(cards: &[Card]) -> &[Card] {
     }
 }
 
-pub fn show_drawer(rt: &HostRuntime, drawer: &[Card]) -> anyhow::Result<()> {
+pub fn show_drawer(rt: &HostRuntime, drawer: &[Card]) -> Result<(), Trouble> {
     let length = drawer.len();
     print!(rt; "drawer {length}:")?;
     for card in used(drawer) {
@@ -27,7 +28,7 @@ pub fn show_drawer(rt: &HostRuntime, drawer: &[Card]) -> anyhow::Result<()> {
     Ok(())
 }
 
-fn show_fault(rt: &HostRuntime, fault: Fault) -> anyhow::Result<()> {
+fn show_fault(rt: &HostRuntime, fault: Fault) -> Result<(), Trouble> {
     let number = fault.number;
     let line = fault.line;
     let byte = fault.byte;
@@ -46,7 +47,7 @@ fn ascii(bytes: &[u8]) -> &str {
     std::str::from_utf8(bytes).unwrap_or("?")
 }
 
-fn show_face(rt: &HostRuntime, face: Face<'_>) -> anyhow::Result<()> {
+fn show_face(rt: &HostRuntime, face: Face<'_>) -> Result<(), Trouble> {
     let level = face.level;
     let identifier = face.identifier.map_or("-", ascii);
     let tag = ascii(face.tag);
@@ -66,7 +67,7 @@ fn show_face(rt: &HostRuntime, face: Face<'_>) -> anyhow::Result<()> {
     Ok(())
 }
 
-fn show_line(rt: &HostRuntime, line: Option<&[u8]>) -> anyhow::Result<()> {
+fn show_line(rt: &HostRuntime, line: Option<&[u8]>) -> Result<(), Trouble> {
     match line {
         Some(text) => {
             let text = hexed(rt.alloc(), text)?;
@@ -77,7 +78,7 @@ fn show_line(rt: &HostRuntime, line: Option<&[u8]>) -> anyhow::Result<()> {
     Ok(())
 }
 
-fn show_answer(rt: &HostRuntime, answer: Answer<'_>) -> anyhow::Result<()> {
+fn show_answer(rt: &HostRuntime, answer: Answer<'_>) -> Result<(), Trouble> {
     match answer {
         Answer::Number(number) => println!(rt; "ok {number}")?,
         Answer::Opened => println!(rt; "ok")?,
@@ -87,7 +88,7 @@ fn show_answer(rt: &HostRuntime, answer: Answer<'_>) -> anyhow::Result<()> {
     Ok(())
 }
 
-pub fn show_outcome(rt: &HostRuntime, outcome: Result<Answer<'_>, Denial>) -> anyhow::Result<()> {
+pub fn show_outcome(rt: &HostRuntime, outcome: Result<Answer<'_>, Denial>) -> Result<(), Trouble> {
     match outcome {
         Ok(answer) => show_answer(rt, answer),
         Err(Denial::Unread(fault)) => show_fault(rt, fault.fault()),
@@ -104,7 +105,7 @@ fn are_kept(bytes: &[u8]) -> bool {
     bytes.iter().all(|b| *b == FILLING)
 }
 
-pub fn show_written(rt: &HostRuntime, buffer: &[u8], size: usize) -> anyhow::Result<()> {
+pub fn show_written(rt: &HostRuntime, buffer: &[u8], size: usize) -> Result<(), Trouble> {
     let end = size.min(buffer.len());
     let written = hexed(rt.alloc(), &buffer[0..end])?;
     let rest = if are_kept(&buffer[end..]) {

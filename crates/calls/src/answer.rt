@@ -21,9 +21,9 @@ pub enum Answer<'f> {
 // Why a call is refused.
 #[derive(Clone, Copy, PartialEq, Eq, Debug)]
 pub enum Denial {
-    // a reading is
+    // of a reading
     Unread(ReadFault),
-    // any other call is
+    // of any other call
     Refused(Refusal),
 }
 

@@ -14,7 +14,7 @@ use viewing::open;
 pub fn open_call<'f>(file: &'f [u8], drawer: &[Card]) -> Result<Answer<'f>, Denial>
     ensures { (m : Meaning) → DoesQuietly m file.now drawer.now Call.Open result drawer.now }
 {
-    let _view = open(file, drawer)?;
+    open(file, drawer)?;
     Ok(Answer::Opened)
 }
 

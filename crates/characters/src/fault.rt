@@ -28,7 +28,7 @@ pub fn fault_at(number: u8, at: Place) -> Fault
 }
 
 impl ByteFault {
-    // Its number and its place.
+    // Its number and its place. A match gives the number, since no variant with a place casts to one.
     pub fn fault(&self) -> Fault
         ensures { result ≡ byte_fault self.now }
     {

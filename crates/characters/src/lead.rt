@@ -26,7 +26,7 @@ const LENGTHS: [u8; 256] = [
     0, 0, 0, 0, 0, 0, 0, 0, 0, 0,
 ];
 
-// How many bytes a character has that begins with `lead`, or 0 where none does. No Option, since the rule is of the numbers.
+// How many bytes a character has that begins with `lead`, or 0 where none does, as in the table.
 pub fn announced(lead: u8) -> u8
     ensures { result ≡ lead_length lead }
 {

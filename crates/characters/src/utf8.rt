@@ -43,8 +43,7 @@ fn goes_second(a: u8, b: u8) -> bool
     b >= least && b < past
 }
 
-// The functions below take the file and a place in it, since the rules speak of places in a file.
-
+// A place in the file is two parameters here and below: a struct of both would be made anew at every step of the loop.
 // How many bytes the character at `i` has, or none where no character begins there.
 fn width(file: &[u8], i: usize) -> Option<usize>
     requires { (length file.now ≤ 16777216) × (i < length file.now) }
@@ -106,7 +105,7 @@ pub fn check(file: &[u8]) -> Result<(), ByteFault>
     let mut i = 0;
     let mut ends: u32 = 0;
     let mut found: Option<Place> = None;
-    // the place steps by whole characters, so no iterator over the bytes counts it
+    // a place that steps by whole characters, which no iterator over bytes does
     while i < file.len() {
         if is_plain(file[i]) {
             i += 1;

@@ -6,8 +6,8 @@ pub mod gregorian;
 pub mod hebrew;
 pub mod julian;
 
-// A calendar that a date may be written in. A constant of bytes has no value in a contract, so beside those two a function
-// answers it.
+// A calendar that a date may be written in. A constant of bytes has no value in a contract, so a function answers the name, and
+// one the months.
 pub trait Calendar {
     // The word before a date.
     const NAME: &'static [u8];

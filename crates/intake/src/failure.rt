@@ -33,9 +33,7 @@ impl fmt::Display for Failure {
             Failure::Usage => f.write_str(
                 "intake: these words are not understood; run intake without any to see what it does",
             ),
-            Failure::NoBook => f.write_str(
-                "intake: there is no such book; name home, plain or open",
-            ),
+            Failure::NoBook => write!(f, "intake: {NoSuchBook}"),
             Failure::Missing => f.write_str(
                 "there is no such file; look at its name and its folder",
             ),
@@ -68,7 +66,7 @@ impl fmt::Display for Failure {
     }
 }
 
-// By hand: a derive would ask for a variant with each error inside, and most are told without it.
+// By hand, as the next ones: each trouble becomes a line of this program's own, and most drop what they came from.
 impl From<ReadFault> for Failure {
     fn from(fault: ReadFault) -> Failure {
         Failure::Refused(fault)

@@ -5,7 +5,8 @@
 ghost use Rattle.std.specs.Prelude.{◌≤◌};
 
 use lines::LineFault;
-use std::alloc::{AllocError, Global};
+use std::alloc::{AllocError, AllocFailed, Global};
+use std::io;
 use std::io::{BufRead, BufReader};
 
 // Where in an escape the reader stands.
@@ -15,6 +16,31 @@ enum Escape {
     Slash,
     Mark,
     Half(u8),
+}
+
+// Why the cases are not all answered.
+#[derive(Debug, Drop)]
+enum Trouble {
+    Memory,
+    Streams,
+}
+
+impl From<AllocError> for Trouble {
+    fn from(_: AllocError) -> Trouble {
+        Trouble::Memory
+    }
+}
+
+impl<T: Drop> From<AllocFailed<T>> for Trouble {
+    fn from(_: AllocFailed<T>) -> Trouble {
+        Trouble::Memory
+    }
+}
+
+impl From<io::Error> for Trouble {
+    fn from(_: io::Error) -> Trouble {
+        Trouble::Streams
+    }
 }
 
 fn digit(b: u8) -> u8
@@ -27,7 +53,7 @@ fn digit(b: u8) -> u8
     }
 }
 
-fn unescaped(heap: Global, text: &[u8]) -> Result<Vec<u8>, AllocError> {
+fn unescaped(heap: Global, text: &[u8]) -> Result<Vec<u8>, Trouble> {
     let mut file = Vec::new(heap);
     let mut escape = Escape::None;
     for b in text {
@@ -52,7 +78,7 @@ fn unescaped(heap: Global, text: &[u8]) -> Result<Vec<u8>, AllocError> {
     Ok(file)
 }
 
-fn answer(rt: &HostRuntime, case: &str) -> anyhow::Result<()> {
+fn answer(rt: &HostRuntime, case: &str) -> Result<(), Trouble> {
     let file = unescaped(rt.alloc(), case.as_bytes())?;
     match lines::check(&file) {
         Ok(counts) => {
@@ -72,7 +98,7 @@ fn answer(rt: &HostRuntime, case: &str) -> anyhow::Result<()> {
     Ok(())
 }
 
-fn main(rt: HostRuntime) -> anyhow::Result<()> {
+fn main(rt: HostRuntime) -> Result<(), Trouble> {
     for case in BufReader::new(rt.alloc(), rt.stdin())?.lines(rt.alloc()) {
         answer(&rt, case?.as_str())?;
     }

@@ -27,7 +27,7 @@ pub enum LineFault {
 }
 
 impl LineFault {
-    // Its number and its place.
+    // Its number and its place. A match gives the number, since no variant with a place casts to one.
     pub fn fault(&self) -> Fault
         ensures { result ≡ line_fault self.now }
     {

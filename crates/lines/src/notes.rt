@@ -1,6 +1,6 @@
 // What the rules ask of each line as it comes, and what is noted of them: for each rule the first line that breaks it.
 ghost use Rattle.std.specs.Prelude.{◌≡◌, ◌<◌, ◌≤◌};
-ghost use Rattle.std.specs.Str.{bytes_eq};
+ghost use Rattle.std.specs.Result.{result_err};
 ghost use Rattle.model.specs.LineTurns.{note as noted};
 ghost use Rattle.model.specs.LineTurns.{breaks6, is_trailer, closes, breaks8, breaks9, breaks10, last_after, notes_after, closing};
 ghost use Rattle.model.specs.LineTurns.{is_pointer as pointing, is_nothing};
@@ -11,7 +11,8 @@ use crate::fault::LineFault;
 use crate::line::{CONC, CONT, HEAD, Line, Payload, TRLR};
 use model::Place;
 
-// What the rules ask of a line. Flags, since each rule asks of one tag alone.
+// What the rules ask of a line: eight questions, as the definitions have them. No enum of tags, since a rule would test it as
+// often as it tests these.
 #[derive(Clone, Copy)]
 pub struct Seen {
     pub level: u8,
@@ -51,8 +52,9 @@ pub struct Scan {
     pub deepest: u8,
     pub last: Last,
     pub notes: Notes,
-    // whether the last line is a bare trailer, and where it is, which is told of the last line that is none
+    // whether the last line is a bare trailer
     pub closed: bool,
+    // where it is, trailer or not
     pub here: Place,
 }
 
@@ -211,31 +213,30 @@ impl Scan {
         }
     }
 
-    // The lowest rule that is broken.
-    pub fn verdict(self) -> Option<LineFault>
-        ensures { Verdict self result }
+    // Whether no rule is broken; if one is, the lowest is told.
+    pub fn verdict(self) -> Result<(), LineFault>
+        ensures { Verdict self (result_err result) }
     {
         let notes = self.notes;
         if let Some(at) = notes.levels {
-            return Some(LineFault::TooDeep(at));
+            return Err(LineFault::TooDeep(at));
         }
         if let Some(at) = notes.first {
-            return Some(LineFault::Header(at));
+            return Err(LineFault::Header(at));
         }
         if let Some(at) = broken_trailer(notes.trailer, self.closed, self.here) {
-            return Some(LineFault::Trailer(at));
+            return Err(LineFault::Trailer(at));
         }
         if let Some(at) = notes.steps {
-            return Some(LineFault::Jump(at));
+            return Err(LineFault::Jump(at));
         }
         if let Some(at) = notes.named {
-            return Some(LineFault::Named(at));
+            return Err(LineFault::Named(at));
         }
-        // not `map`: of a variant in a function's place the proof did not close
-        match notes.continued {
-            Some(at) => Some(LineFault::Continuation(at)),
-            None => None,
+        if let Some(at) = notes.continued {
+            return Err(LineFault::Continuation(at));
         }
+        Ok(())
     }
 }
 

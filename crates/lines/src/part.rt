@@ -25,9 +25,10 @@ pub fn run<P: Fn(u8) -> bool>(bytes: &[u8], passes: P) -> usize
 fn capped(digits: &[u8]) -> u8
     ensures { result ≡ min 100 (number_of digits.now) }
 {
+    // a loop, since each turn stands on the bound of the one before
     let mut n: u16 = 0;
     for d in digits {
-        n = (n * 10 + (*d as u16).saturating_sub(48)).min(100);
+        n = (n * 10 + (*d as u16).saturating_sub(b'0' as u16)).min(100);
     }
     n as u8
 }
@@ -48,21 +49,14 @@ pub fn read_level(bytes: &[u8]) -> Option<(u8, &[u8])>
     ensures { ReadsLevel bytes.now result }
 {
     let (digits, rest) = bytes.split_at(run(bytes, |b| b.is_ascii_digit()));
-    if is_level(digits) {
-        Some((capped(digits), rest))
-    } else {
-        None
-    }
+    is_level(digits).then_some((capped(digits), rest))
 }
 
 // What follows a space.
 pub fn read_space(bytes: &[u8]) -> Option<&[u8]>
     ensures { option_map (λ x. x.now) result ≡ read_byte 32 bytes.now }
 {
-    match bytes {
-        [b' ', rest @ ..] => Some(rest),
-        _ => None,
-    }
+    bytes.strip_prefix(b" ")
 }
 
 // Where the part begins with @: what stands from it to the next, both with it, and what follows.
@@ -96,5 +90,5 @@ pub fn read_tag(bytes: &[u8]) -> Option<(&[u8], &[u8])>
     ensures { ReadsTag bytes.now result }
 {
     let (tag, rest) = bytes.split_at(run(bytes, is_tag_character));
-    if is_tag(tag) { Some((tag, rest)) } else { None }
+    is_tag(tag).then_some((tag, rest))
 }

@@ -42,14 +42,12 @@ fn scan(file: &[u8]) -> Result<Counts, LineFault>
             byte: cursor.at as u32,
         }));
     }
-    match scan.verdict() {
-        Some(fault) => Err(fault),
-        None => Ok(Counts {
-            lines: scan.lines,
-            cards: scan.cards,
-            deepest: scan.deepest,
-        }),
-    }
+    scan.verdict()?;
+    Ok(Counts {
+        lines: scan.lines,
+        cards: scan.cards,
+        deepest: scan.deepest,
+    })
 }
 
 // Whether a file keeps the rules of the characters and of the lines.

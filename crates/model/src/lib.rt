@@ -28,7 +28,7 @@ impl Card {
 pub const MOST: usize = 65_535;
 
 // What became of a card's line: it stands as filed, its pointer was made void, its payload was taken away, or the card
-// names no line. No Option of the first three, since a drawer is a table of plain cards that its owner may have damaged.
+// names no line. Blank is no absence of a state: a blank card has one form, and with another a drawer holds nothing.
 #[derive(Clone, Copy, PartialEq, Eq, Debug)]
 pub enum State {
     Filed,
@@ -37,7 +37,8 @@ pub enum State {
     Blank,
 }
 
-// Where a structure stands: at the top, with the header and the records, or under a structure of a type.
+// Where a structure stands: at the top, with the header and the records, or under a structure of a type. No Option, since the
+// names say which is meant.
 #[derive(Clone, Copy, PartialEq, Eq, Debug)]
 pub enum Context {
     Top,
@@ -123,8 +124,8 @@ impl Refusal {
 }
 
 // What a removal does to the cards, by their positions: nothing, since a structure is held; those from one up to another go;
-// or the one at a place loses its payload, and those behind it up to another go. No Option of the last two, since a caller takes
-// all three apart in one match.
+// or the one at a place loses its payload, and those behind it up to another go. No Option of the last two, since the
+// definitions and laws speak of the three.
 #[derive(Clone, Copy, PartialEq, Eq, Debug)]
 pub enum Edit {
     Withheld,

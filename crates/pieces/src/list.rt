@@ -43,7 +43,7 @@ fn last_piece(mut text: &[u8]) -> &[u8]
     text
 }
 
-// This and the next ask at the two ends, for which the slice has two methods.
+// Two functions, since a slice has a method for each of its ends.
 fn begins_well(first: &[u8]) -> bool
     ensures { result ≡ begins_well first.now }
 {

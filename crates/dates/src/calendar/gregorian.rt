@@ -3,7 +3,7 @@ ghost use Rattle.model.specs.Kinds.{gregorian};
 
 use crate::calendar::Calendar;
 
-// Of the Julian calendar too.
+// The months of this calendar and of the Julian.
 pub const ROMAN_MONTHS: [&[u8]; 12] = [
     b"JAN", b"FEB", b"MAR", b"APR", b"MAY", b"JUN", b"JUL", b"AUG", b"SEP", b"OCT", b"NOV", b"DEC",
 ];

@@ -1,12 +1,14 @@
-use Rattle.std.proofs.Common.{◌≡◌, ℕ, ◌+◌, ◌≤◌, List, length, sym, refl, ap, ◌∙◌, subst, arith, Ok, Some, Option}
+use Rattle.std.proofs.Common.{◌≡◌, ℕ, ◌+◌, ◌≤◌, List, length, sym, refl, ap, ◌∙◌, subst, arith, Ok, Err, Some, Option}
 use Rattle.model.specs.Refusals.{Refuses, fault}
 use Rattle.model.specs.LineTurns.{line_end}
 use Rattle.model.proofs.LineTurns.{next_line_past}
 use Rattle.lines.specs.declared.steps.Found.{Found}
 use Rattle.lines.specs.Faults.{line_fault}
+use Rattle.lines.specs.Counts.{Checks}
 use Rattle.lines.specs.Steps.{Comes, NoLineAt, Steps}
 use Rattle.lines.proofs.Giving.{came, ended}
 use Rattle.lines.proofs.Scanned.{start, step, few, cards_few, no_line, bare, broken, kept}
+use Rattle.std.proofs.lemmas.Result.{err_from_is_err_and}
 use Rattle.lines.proofs.rules.scan.Goals as goal
 
 pub loop-found-init : goal.loop-found-init
@@ -70,14 +72,16 @@ returns-then-scan-eq0 c m cards =
     subst (λ i. Refuses m file cards (fault 4 1 i)) (sym stays)
     (bare file c.loop-found.cursor.at c.loop-found.scan c.requires.short c.requires.clean c.loop-found.invariant.1 (omega arith) m cards c.if-scan-eq0.true)
 
-pub returns-in-Some : goal.returns-in-Some
-returns-in-Some c m cards =
+pub returns-in_err-verdict : goal.returns-in_err-verdict
+returns-in_err-verdict c =
+    let p = err_from_is_err_and c.from_residual.result c.from_residual.ensures.1 in
     let (end, _) = ended c.loop-found.cursor.file.now c.loop-found.cursor.at c.loop-found.cursor.lines c.step.new.self.at c.step.new.self.lines c.in-Ok-None.field-0 c.in-Ok-None.ensures.steps c.in-Ok-None.field-0-is in
     let same = ap length c.loop-found.invariant.0 in
-    broken c.args.file.now c.loop-found.cursor.at c.loop-found.scan c.requires.short c.requires.clean c.loop-found.invariant.1 (omega arith) m cards (line_fault c.in-Some.fault) c.if-scan-eq0.false (sym c.in-Some.ensures)
+    subst (Checks c.args.file.now) (sym (p.1 ∙ ap Err p.2))
+    (λ m cards. broken c.args.file.now c.loop-found.cursor.at c.loop-found.scan c.requires.short c.requires.clean c.loop-found.invariant.1 (omega arith) m cards (line_fault c.in_err-verdict.field-0.0) c.if-scan-eq0.false (sym c.in_err-verdict.ensures))
 
-pub returns-in-None : goal.returns-in-None
-returns-in-None c =
+pub returns : goal.returns
+returns c =
     let (end, _) = ended c.loop-found.cursor.file.now c.loop-found.cursor.at c.loop-found.cursor.lines c.step.new.self.at c.step.new.self.lines c.in-Ok-None.field-0 c.in-Ok-None.ensures.steps c.in-Ok-None.field-0-is in
     let same = ap length c.loop-found.invariant.0 in
-    kept c.args.file.now c.loop-found.cursor.at c.loop-found.scan c.requires.short c.requires.clean c.loop-found.invariant.1 (omega arith) _ c.if-scan-eq0.false (sym c.in-None.ensures) refl refl refl
+    kept c.args.file.now c.loop-found.cursor.at c.loop-found.scan c.requires.short c.requires.clean c.loop-found.invariant.1 (omega arith) _ c.if-scan-eq0.false (sym c.in_ok-verdict.ensures) refl refl refl
