@@ -22,11 +22,7 @@ impl<B: Book> Open<B> {
         ensures { let types = (B.meaning self.now.below).types in result ≡ cond (nat_lt types 1000) (Some types) None }
     {
         let further = self.below.types();
-        if further < MOST_TYPES {
-            Some(further as u16)
-        } else {
-            None
-        }
+        (further < MOST_TYPES).then_some(further as u16)
     }
 
     // The row of a tag that the book below has none for.

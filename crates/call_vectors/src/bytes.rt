@@ -8,7 +8,7 @@ fn digit(b: u8) -> Option<u8> {
     }
 }
 
-// The bytes that a text has in hexadecimal; a lone hyphen has none.
+// The bytes that a text has in hexadecimal; a lone hyphen has none. By hand, since the library refuses a text with a hyphen.
 pub fn unhexed(heap: Global, hex: &str) -> Result<Vec<u8>, AllocError> {
     let mut bytes = Vec::new(heap);
     let mut first = None;
@@ -25,19 +25,13 @@ pub fn unhexed(heap: Global, hex: &str) -> Result<Vec<u8>, AllocError> {
     Ok(bytes)
 }
 
-const DIGITS: &[u8; 16] = b"0123456789abcdef";
-
 // Bytes in hexadecimal; a hyphen where there are none.
 pub fn hexed(heap: Global, bytes: &[u8]) -> Result<String, AllocError> {
-    let mut text = String::new(heap);
-    for b in bytes {
-        text.push(DIGITS[(b / 16) as usize] as char)?;
-        text.push(DIGITS[(b % 16) as usize] as char)?;
-    }
     if bytes.is_empty() {
-        text.push('-')?;
+        String::from_str_in(heap, "-")
+    } else {
+        hex::encode(heap, bytes)
     }
-    Ok(text)
 }
 
 // Appends the bytes, a number from 1 on and the other bytes, so many times.

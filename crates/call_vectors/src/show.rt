@@ -29,10 +29,13 @@ pub fn show_drawer(rt: &HostRuntime, drawer: &[Card]) -> Result<(), Trouble> {
 }
 
 fn show_fault(rt: &HostRuntime, fault: Fault) -> Result<(), Trouble> {
-    let number = fault.number;
-    let line = fault.line;
-    let byte = fault.byte;
-    if let Some(missing) = fault.missing {
+    let Fault {
+        number,
+        line,
+        byte,
+        missing,
+    } = fault;
+    if let Some(missing) = missing {
         println!(rt; "refused {number} line {line} byte {byte} missing {missing}")?;
     } else if line == 0 {
         println!(rt; "refused {number}")?;
@@ -107,7 +110,7 @@ fn are_kept(bytes: &[u8]) -> bool {
 
 pub fn show_written(rt: &HostRuntime, buffer: &[u8], size: usize) -> Result<(), Trouble> {
     let end = size.min(buffer.len());
-    let written = hexed(rt.alloc(), &buffer[0..end])?;
+    let written = hexed(rt.alloc(), &buffer[..end])?;
     let rest = if are_kept(&buffer[end..]) {
         "kept"
     } else {

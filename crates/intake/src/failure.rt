@@ -1,5 +1,6 @@
 use crate::messages::sentence;
 use books::NoSuchBook;
+use model::Fault;
 use reading::ReadFault;
 use std::alloc::{AllocError, AllocFailed};
 use std::{fmt, io};
@@ -46,12 +47,14 @@ impl fmt::Display for Failure {
                 "intake: the report could not be written; look at where the output goes",
             ),
             Failure::Refused(refused) => {
-                let fault = refused.fault();
-                let number = fault.number;
-                let line = fault.line;
-                let byte = fault.byte;
+                let Fault {
+                    number,
+                    line,
+                    byte,
+                    missing,
+                } = refused.fault();
                 let words = sentence(refused);
-                if let Some(typed) = fault.missing {
+                if let Some(typed) = missing {
                     write!(
                         f,
                         "refused {number}, line {line}, byte {byte}, missing type {typed}: {words}"

@@ -28,7 +28,9 @@ pub fn file_told(rt: &HostRuntime, path: &str, file: &[u8], counts: Counts) -> R
 fn tags_told(rt: &HostRuntime, tags: &[&[u8]]) -> Result<(), Failure> {
     for alike in tags.chunk_by(|one, next| one == next) {
         let many = alike.len();
-        if let Some(Ok(tag)) = alike.first().map(|tag| std::str::from_utf8(tag)) {
+        if let [tag, ..] = alike
+            && let Ok(tag) = std::str::from_utf8(tag)
+        {
             println!(rt; "  {many} {tag}")?;
         }
     }
@@ -45,24 +47,21 @@ pub fn tree_told(
     let many = cards.len();
     println!(rt; "it belongs to the {shelf} book, with {many} cards; at the top stand")?;
     let mut tags = Vec::new(rt.alloc());
+    let mut pointers: usize = 0;
+    let mut void: usize = 0;
     for card in cards {
         if level_of(file, *card) == 0 {
             tags.push(tag_of(file, *card))?;
         }
+        match content_of(file, *card) {
+            Content::Pointer(_) => pointers = pointers.saturating_add(1),
+            Content::Void => void = void.saturating_add(1),
+            Content::Nothing | Content::Line(_) | Content::Lines => {}
+        }
     }
     tags.sort_unstable();
     tags_told(rt, &tags)?;
-    let void = cards
-        .iter()
-        .filter(|card| matches!(content_of(file, **card), Content::Void))
-        .count();
-    let all = cards
-        .iter()
-        .filter(|card| matches!(
-            content_of(file, **card),
-            Content::Void | Content::Pointer(_)
-        ))
-        .count();
+    let all = pointers.saturating_add(void);
     println!(rt; "{all} pointers, of which {void} are void")?;
     Ok(())
 }

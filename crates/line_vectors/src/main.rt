@@ -4,7 +4,7 @@
 
 ghost use Rattle.std.specs.Prelude.{◌≤◌};
 
-use lines::LineFault;
+use model::Fault;
 use std::alloc::{AllocError, AllocFailed, Global};
 use std::io;
 use std::io::{BufRead, BufReader};
@@ -88,10 +88,12 @@ fn answer(rt: &HostRuntime, case: &str) -> Result<(), Trouble> {
             println!(rt; "ok {lines} {continued} {deepest} {case}")?;
         }
         Err(fault) => {
-            let told = fault.fault();
-            let number = told.number;
-            let line = told.line;
-            let byte = told.byte;
+            let Fault {
+                number,
+                line,
+                byte,
+                ..
+            } = fault.fault();
             println!(rt; "refused {number} line {line} byte {byte} {case}")?;
         }
     }
