@@ -1,5 +1,5 @@
-// What a removal does to the cards of a drawer: the edit that it is, and that edit done. The cards are lent to be changed, so
-// that they and two positions in them stay parameters.
+// What a removal does to the cards of a drawer: the edit that it is, and that edit done. An `Edit` of the model, of which the
+// definitions speak, has two numbers, and the functions take them as they are.
 #![tactic(auto)]
 
 mod applying;

@@ -13,9 +13,10 @@ use model::{Card, State};
 fn state_without(payload: Payload<'_>) -> State
     ensures { result ≡ emptied_value (value_of payload.entry) }
 {
-    match payload {
-        Payload::Void | Payload::Pointer(_) => State::Voided,
-        Payload::None | Payload::Text(_) => State::Emptied,
+    if payload.is_pointer() {
+        State::Voided
+    } else {
+        State::Emptied
     }
 }
 

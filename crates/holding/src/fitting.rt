@@ -13,7 +13,7 @@ use model::{Card, State};
 fn is_allowed(state: State, payload: Payload<'_>) -> bool
     ensures { Decides result (AllowedValue state (value_of payload.entry)) }
 {
-    let points = matches!(payload, Payload::Void | Payload::Pointer(_));
+    let points = payload.is_pointer();
     match state {
         State::Filed => true,
         State::Voided => points,

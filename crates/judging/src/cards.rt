@@ -43,10 +43,11 @@ impl<B: Book, E: Entries> Cards<'_, B, E> {
         let Kind::Pointer(typed) = self.book.kind(self.marks[i].row.typed) else {
             return true;
         };
-        self.entries
-            .target(i)
-            .and_then(|named| self.marks.get(named))
-            .is_none_or(|mark| mark.row.typed == typed)
+        self.entries.target(i).is_none_or(|named| {
+            self.marks
+                .get(named)
+                .is_some_and(|mark| mark.row.typed == typed)
+        })
     }
 
     // Whether no card stands below this one.

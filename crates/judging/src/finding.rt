@@ -19,7 +19,7 @@ pub enum Rule {
 }
 
 impl Rule {
-    // The number of the fault that tells it, which people are told: no variant with a payload casts to one.
+    // The number of the fault that tells it: people are told it, and an enum of which a variant holds a type casts to none.
     pub fn number(&self) -> u8
         ensures { result ≡ rule_number self.now }
     {

@@ -1,5 +1,5 @@
 -- What the parts of a reading find, and so its answer. Assumes nothing.
-use Rattle.std.proofs.Common.{◌≡◌, ℕ, ◌+◌, ◌<◌, ◌≤◌, min, List, [], ◌++◌, length, get_or, take, Some, None, Option, Ok, Err, Result, sym, refl, ap, ◌∙◌, subst, inl, inr, arith, length-take}
+use Rattle.std.proofs.Common.{◌≡◌, Bor, ℕ, ◌+◌, ◌<◌, ◌≤◌, min, List, [], ◌++◌, length, get_or, take, Some, None, Ok, Err, Result, sym, refl, ap, ◌∙◌, subst, inl, inr, arith, length-take}
 use lib.ListN.{length-map}
 use Rattle.std.proofs.ByRecursion.{All-get_or, All-weaker}
 use Rattle.std.proofs.lemmas.List.{get_or_past, get_or-map, take_all, take_at}
@@ -16,8 +16,7 @@ use Rattle.model.specs.Edits.{no_entry, body}
 use Rattle.model.specs.Refusals.{Refuses, lined, fault, lines_of, byte_at, others, Keeps11, Keeps12, Keeps13, First, LineRule, levels, first, last, steps, named, continued, room, apart, aimed, LineKeeps, LinesKeep}
 use Rattle.model.specs.LineTurns.{spot_of, Noted, RulesKept}
 use Rattle.model.specs.Index.{place_of, card_line, card_spot}
-use Rattle.model.specs.Positions.{FindsNone, Told}
-use Rattle.model.proofs.Drawers.{files_long}
+use Rattle.model.specs.Positions.{FindsNone}
 use Rattle.model.proofs.Options.{some_same}
 use Rattle.model.proofs.Noting.{kept_next, kept_all, refusal}
 use Rattle.model.proofs.Answering.{Read, kept_read, others_within, room_kept as kept_few, accepted, declined}
@@ -27,7 +26,7 @@ use Rattle.model.proofs.Finding.{told_within}
 use Rattle.model.proofs.Turns.{dataset_sound, length_body}
 use Rattle.model.specs.Tables.{plain}
 use Rattle.filling.specs.Filling.{cards_of, card_at}
-use Rattle.naming.specs.Naming.{Name, CardsShow, IndexOf, NamesFound}
+use Rattle.naming.specs.Naming.{Name, CardsShow, IndexOf, NamesFit, NamesFound}
 use Rattle.naming.specs.declared.NameFault.{NameFault}
 use Rattle.naming.specs.declared.NameFault.TheVariants as name
 use Rattle.judging.specs.Entries.{Judgeable}
@@ -162,12 +161,6 @@ module _ (file : List ℕ) (ps : List Placed) (rooms : ℕ) (passes : Passes fil
         let head = (passes.ordered.first 0 (let s = passes.ordered.some in omega arith)).0 refl in
         absurd (let z : nothing ≡ pointer x = ap (λ (l : Line). l.value) (sym head) ∙ e in let y : ◌≡◌ {A = ℕ} 0 1 = cc in omega arith)
 
-    pub repeated_within : (k : ℕ) → Noted (LineKeeps apart rooms ps) ps (card_spot ps (Some k)) → k < length cards
-    repeated_within k n = let e = many in let low = not_first (LineKeeps apart rooms ps) k first_apart n in omega arith
-
-    pub lost_within : (k : ℕ) → Noted (LineKeeps aimed rooms ps) ps (card_spot ps (Some k)) → k < length cards
-    lost_within k n = let e = many in let low = not_first (LineKeeps aimed rooms ps) k first_aimed n in omega arith
-
     pub repeated : (m : Meaning) (k : ℕ) (p : Place) → Noted (LineKeeps apart rooms ps) ps (card_spot ps (Some k)) → PlacedAt file cards k p → Refuses m file rooms (fault 12 p.line p.byte)
     repeated m k p n at =
         let is = there k p (not_first (LineKeeps apart rooms ps) k first_apart n) at in
@@ -215,32 +208,34 @@ module _ (file : List ℕ) (ps : List Placed) (rooms : ℕ) (passes : Passes fil
 entered : (s : Entered) (file : List ℕ) (cards : List Card) (d : Dataset) → s.file.now ≡ file → s.cards.now ≡ cards → Entering file cards s.names.now d → Entering s.file.now s.cards.now s.names.now d
 entered s file cards d ef ec e = subst (λ x. Entering x s.cards.now s.names.now d) (sym ef) (subst (λ x. Entering file x s.names.now d) (sym ec) e)
 
--- what is found is found of a card
-pub found_within : (m : Meaning) (s : Entered) (d : Dataset) → Entering s.file.now s.cards.now s.names.now d → (n k : ℕ) (missing : Option ℕ) → Told m (body (entries d)) n k missing → k < length s.cards.now
-found_within m s d e n k missing t = let low = told_within m (body (entries d)) n k missing (dataset_sound plain d e.is).some t in let long = files_long e.placed s.cards.now (entries d) e.files in omega (arith, length_body (entries d))
-
 -- cards that break one of the identifiers
-pub names_refused : (m : Meaning) (file : List ℕ) (cards : List Card) (fault : NameFault) (r : Option ReadFault) → ((room : ℕ) (ps : List Placed) → CardsShow file cards ps → RulesKept 11 room ps → NamesFound room ps (Err fault)) → TellsNames file cards fault r → Judges m file cards r
-names_refused m file cards (name.Repeated k) None fit past = λ ps rooms passes are kept.
-    let low = repeated_within file ps rooms passes cards are kept k (fit rooms ps (shows file ps rooms passes cards are kept) (ordered_kept file ps rooms passes)) in absurd (omega arith)
-names_refused m file cards (name.Repeated k) (Some r) fit (p, is, at) = λ ps rooms passes are kept.
+pub names_refused : (m : Meaning) (file : List ℕ) (cards : List Card) (fault : NameFault) (r : ReadFault) → ((room : ℕ) (ps : List Placed) → CardsShow file cards ps → RulesKept 11 room ps → NamesFound room ps (Err fault)) → TellsNames file cards fault r → Judges m file cards (Err r)
+names_refused m file cards (name.Repeated k) r fit (p, is, at) = λ ps rooms passes are kept.
     subst (λ f. Refuses m file rooms (read_fault f)) (sym is) (repeated file ps rooms passes cards are kept m k p (fit rooms ps (shows file ps rooms passes cards are kept) (ordered_kept file ps rooms passes)) at)
-names_refused m file cards (name.Lost k) None fit past = λ ps rooms passes are kept.
-    let low = lost_within file ps rooms passes cards are kept k (fit rooms ps (shows file ps rooms passes cards are kept) (ordered_kept file ps rooms passes)).1 in absurd (omega arith)
-names_refused m file cards (name.Lost k) (Some r) fit (p, is, at) = λ ps rooms passes are kept.
+names_refused m file cards (name.Lost k) r fit (p, is, at) = λ ps rooms passes are kept.
     let n = fit rooms ps (shows file ps rooms passes cards are kept) (ordered_kept file ps rooms passes) in
     subst (λ f. Refuses m file rooms (read_fault f)) (sym is) (lost file ps rooms passes cards are kept m k p n.0 n.1 at)
 
 -- cards that keep the rules of the identifiers, judged
-pub judged : (m : Meaning) (file : List ℕ) (cards : List Card) (s : Entered) (r : Option ReadFault) → s.file.now ≡ file → s.cards.now ≡ cards → ((room : ℕ) (ps : List Placed) → CardsShow file cards ps → RulesKept 11 room ps → Noted (LineKeeps apart room ps) ps None × Noted (LineKeeps aimed room ps) ps None × IndexOf ps s.names.now) → JudgesNamed m s r → Judges m file cards r
-judged m file cards s None ef ec fit j = λ ps rooms passes are kept.
+pub judged : (m : Meaning) (file : List ℕ) (cards : List Card) (s : Entered) (r : Result (Unit {0}) ReadFault) → s.file.now ≡ file → s.cards.now ≡ cards → ((room : ℕ) (ps : List Placed) → CardsShow file cards ps → RulesKept 11 room ps → Noted (LineKeeps apart room ps) ps None × Noted (LineKeeps aimed room ps) ps None × IndexOf ps s.names.now) → JudgesNamed m s r → Judges m file cards r
+judged m file cards s (Ok u) ef ec fit j = λ ps rooms passes are kept.
     let (a, b, index) = fit rooms ps (shows file ps rooms passes cards are kept) (ordered_kept file ps rooms passes) in
     let d = (reads file ps rooms passes cards are kept s.names.now a b index).dataset in
     (reads file ps rooms passes cards are kept s.names.now a b index, belongs file ps rooms passes cards are kept s.names.now a b index m (j d (entered s file cards d ef ec (entering file ps rooms passes cards are kept s.names.now a b index)) (few file ps rooms passes cards are kept s.names.now a b index)))
-judged m file cards s (Some f) ef ec fit j = λ ps rooms passes are kept.
+judged m file cards s (Err f) ef ec fit j = λ ps rooms passes are kept.
     let (a, b, index) = fit rooms ps (shows file ps rooms passes cards are kept) (ordered_kept file ps rooms passes) in
     let d = (reads file ps rooms passes cards are kept s.names.now a b index).dataset in
     found file ps rooms passes cards are kept s.names.now a b index m s f ef ec (j d (entered s file cards d ef ec (entering file ps rooms passes cards are kept s.names.now a b index)) (few file ps rooms passes cards are kept s.names.now a b index))
+
+-- what the rules of the identifiers answer, told or judged
+module _ (m : Meaning) (file : List ℕ) (cards : List Card) (few : length cards ≤ 65535) where
+  pub names_told : (r : Result (Bor (List Name)) NameFault) → NamesFit file cards 65535 r → (f : ReadFault) → MatchResult r (λ x. ⊥) (λ e. TellsNames file cards e f) → Judges m file cards (Err f)
+  names_told (Ok x) fit f e = elim e [ ]
+  names_told (Err e) fit f tells = names_refused m file cards e f (λ room ps s k. fit room ps s k few) tells
+
+  pub names_judged : (r : Result (Bor (List Name)) NameFault) → NamesFit file cards 65535 r → (s : Entered) → MatchResult r (λ x. ◌≡◌ {A = Result (Bor (List Name)) ReadFault} (Ok s.names) (Ok x)) (λ e. ⊥) → s.file.now ≡ file → s.cards.now ≡ cards → (j : Result (Unit {0}) ReadFault) → JudgesNamed m s j → Judges m file cards j
+  names_judged (Ok x) fit s e ef ec j tells = judged m file cards s j ef ec (λ room ps shown k. subst (λ (y : Bor (List Name)). NamesFound room ps (Ok y)) (let z : x ≡ s.names = cc in z) (fit room ps shown k few)) tells
+  names_judged (Err f) fit s e ef ec j tells = elim e [ ]
 
 -- a drawer that was filled, or has too few cards
 module _ (file : List ℕ) (rooms : ℕ) (out : List Card) where
@@ -257,10 +252,10 @@ module _ (m : Meaning) (file : List ℕ) (rooms n : ℕ) (out : List Card) (ps :
   cards_are : take k out ≡ cards_of ps
   cards_are = ap (λ j. take j out) is ∙ take_min n out ∙ ap (take n) f.are ∙ take_at (cards_of ps) f.blanks n (length-map (others ps) (λ i. card_at (byte_at ps i)) ∙ sym f.counted)
 
-  pub filled_judged : Judges m file (take k out) None → Filed m file rooms n out
-  filled_judged j = let (r, belongs) = j ps rooms passes cards_are f.kept in record { placed = ps; read = r; belongs = belongs; filled = f }
+  pub filled_judged : (u : Unit {0}) → Judges m file (take k out) (Ok u) → Filed m file rooms n out
+  filled_judged u j = let (r, belongs) = j ps rooms passes cards_are f.kept in record { placed = ps; read = r; belongs = belongs; filled = f }
 
-  pub refused_judged : (g : ReadFault) → Judges m file (take k out) (Some g) → Refuses m file rooms (read_fault g)
+  pub refused_judged : (g : ReadFault) → Judges m file (take k out) (Err g) → Refuses m file rooms (read_fault g)
   refused_judged g j = j ps rooms passes cards_are f.kept
 
   pub fits_few : length (take k out) ≤ 65535

@@ -1,5 +1,5 @@
 -- What a reading answers, and what its parts find. Assumes nothing.
-use Rattle.std.specs.Prelude.{◌≡◌, ℕ, ◌<◌, ◌≤◌, List, length, Some, None, Ok, Err, Option, Result, MatchOption, slice_index_or}
+use Rattle.std.specs.Prelude.{◌≡◌, ℕ, ◌<◌, ◌≤◌, List, length, None, Ok, Err, Result, slice_index_or}
 use Rattle.model.specs.declared.Card.{Card}
 use Rattle.model.specs.declared.Place.{Place}
 use Rattle.model.specs.Books.{Meaning}
@@ -30,14 +30,10 @@ use Rattle.reading.specs.declared.fault.ReadFault.TheVariants.{Repeated, Lost, U
 abbrev pub PlacedAt : List ℕ → List Card → ℕ → Place → Type 0
 PlacedAt file cards k r = (ps : List Placed) (i : ℕ) (c : Card) → Short file → Lined file ps → k < length cards → i < length ps → byte_at ps i ≡ (slice_index_or cards k c).byte → r ≡ spot_of ps i
 
--- or none, where there is no such card
-abbrev pub PlacedOf : List ℕ → List Card → ℕ → Option Place → Type 0
-PlacedOf file cards k r = MatchOption r (length cards ≤ k) (λ p. PlacedAt file cards k p)
-
--- the fault of each rule of the identifiers, told at the card's line, if there is such a card
-abbrev pub TellsNames : List ℕ → List Card → NameFault → Option ReadFault → Type 0
-TellsNames file cards (name.Repeated k) r = MatchOption r (length cards ≤ k) (λ f. (p : Place) × (f ≡ Repeated p) × PlacedAt file cards k p)
-TellsNames file cards (name.Lost k) r = MatchOption r (length cards ≤ k) (λ f. (p : Place) × (f ≡ Lost p) × PlacedAt file cards k p)
+-- the fault of each rule of the identifiers, told at the card's line
+abbrev pub TellsNames : List ℕ → List Card → NameFault → ReadFault → Type 0
+TellsNames file cards (name.Repeated k) r = (p : Place) × (r ≡ Repeated p) × PlacedAt file cards k p
+TellsNames file cards (name.Lost k) r = (p : Place) × (r ≡ Lost p) × PlacedAt file cards k p
 
 -- the fault of each rule of a book
 abbrev pub fault_by : Rule → Place → ReadFault
@@ -57,14 +53,14 @@ pub record FoundBy (m : Meaning) (s : Entered) (d : Dataset) (f : ReadFault) : T
   pub placed : PlacedAt s.file.now s.cards.now finding.card at
 
 -- the entered cards keep the rules of the book, or the fault tells the first that does not
-abbrev pub JudgesNamed : Meaning → Entered → Option ReadFault → Type 0
-JudgesNamed m s None = (d : Dataset) → Entering s.file.now s.cards.now s.names.now d → length (entries d) ≤ 65535 → FindsNone m (body (entries d))
-JudgesNamed m s (Some f) = (d : Dataset) → Entering s.file.now s.cards.now s.names.now d → length (entries d) ≤ 65535 → FoundBy m s d f
+abbrev pub JudgesNamed : Meaning → Entered → Result (Unit {0}) ReadFault → Type 0
+JudgesNamed m s (Ok u) = (d : Dataset) → Entering s.file.now s.cards.now s.names.now d → length (entries d) ≤ 65535 → FindsNone m (body (entries d))
+JudgesNamed m s (Err f) = (d : Dataset) → Entering s.file.now s.cards.now s.names.now d → length (entries d) ≤ 65535 → FoundBy m s d f
 
 -- the cards of the file's lines, for which there is room, keep the rules of the identifiers and of the book; or the fault is the one that the rules name
-abbrev pub Judges : Meaning → List ℕ → List Card → Option ReadFault → Type 0
-Judges m file cards None = (ps : List Placed) (room : ℕ) → Passes file ps → cards ≡ cards_of ps → Noted (Keeps11 room ps) ps None → (r : Read file room ps) × Belongs m r.dataset
-Judges m file cards (Some f) = (ps : List Placed) (room : ℕ) → Passes file ps → cards ≡ cards_of ps → Noted (Keeps11 room ps) ps None → Refuses m file room (read_fault f)
+abbrev pub Judges : Meaning → List ℕ → List Card → Result (Unit {0}) ReadFault → Type 0
+Judges m file cards (Ok u) = (ps : List Placed) (room : ℕ) → Passes file ps → cards ≡ cards_of ps → Noted (Keeps11 room ps) ps None → (r : Read file room ps) × Belongs m r.dataset
+Judges m file cards (Err f) = (ps : List Placed) (room : ℕ) → Passes file ps → cards ≡ cards_of ps → Noted (Keeps11 room ps) ps None → Refuses m file room (read_fault f)
 
 -- the cards are filed, and their dataset belongs to the book
 pub record Filed (m : Meaning) (file : List ℕ) (room n : ℕ) (out : List Card) : Type 0 where

@@ -32,7 +32,8 @@ pub enum ReadFault {
 }
 
 impl ReadFault {
-    // Its number and its place, and the type that is missing.
+    // Its number, which people are told, and its place, and the type that is missing: a variant holds a place, so none casts to
+    // a number.
     pub fn fault(&self) -> Fault
         ensures { result ≡ read_fault self.now }
     {

@@ -1,6 +1,6 @@
 // Reading a tree: the drawer then holds the one dataset of the book with the file's lines, or is blank.
 ghost use Rattle.std.specs.Prelude.{◌≡◌, ◌≤◌, length};
-ghost use Rattle.reading.specs.Read.{Fits, Judges, JudgesNamed, Reads, PlacedOf, TellsNames, fault_by};
+ghost use Rattle.reading.specs.Read.{Fits, Judges, JudgesNamed, Reads, PlacedAt, TellsNames, fault_by};
 
 use crate::entered::Entered;
 use crate::fault::ReadFault;
@@ -11,11 +11,11 @@ use looking::place_at;
 use model::{Card, MOST, Place};
 use naming::{NameFault, UNNAMED, check_names};
 
-// Where the line of a card is, if there is such a card.
-fn place_of(file: &[u8], cards: &[Card], card: usize) -> Option<Place>
-    ensures { PlacedOf file.now cards.now card result }
+// Where the line of a card is.
+fn place_of(file: &[u8], cards: &[Card], card: usize) -> Place
+    ensures { PlacedAt file.now cards.now card result }
 {
-    Some(place_at(file, cards.get(card)?.byte as usize))
+    cards.get(card).map_or(Place::NOWHERE, |found| place_at(file, found.byte as usize))
 }
 
 fn told(rule: Rule, at: Place) -> ReadFault
@@ -31,33 +31,37 @@ fn told(rule: Rule, at: Place) -> ReadFault
     }
 }
 
-fn told_of_names(file: &[u8], cards: &[Card], fault: NameFault) -> Option<ReadFault>
+fn told_of_names(file: &[u8], cards: &[Card], fault: NameFault) -> ReadFault
     ensures { TellsNames file.now cards.now fault result }
 {
-    Some(match fault {
-        NameFault::Repeated(card) => ReadFault::Repeated(place_of(file, cards, card)?),
-        NameFault::Lost(card) => ReadFault::Lost(place_of(file, cards, card)?),
-    })
+    match fault {
+        NameFault::Repeated(card) => ReadFault::Repeated(place_of(file, cards, card)),
+        NameFault::Lost(card) => ReadFault::Lost(place_of(file, cards, card)),
+    }
 }
 
-// The lowest rule of the book that cards break which keep those of the identifiers.
-fn judge_named<B: Book>(entered: Entered<'_, '_, '_>, book: &B) -> Option<ReadFault>
+// Whether cards that keep the rules of the identifiers keep those of the book.
+fn judge_named<B: Book>(entered: Entered<'_, '_, '_>, book: &B) -> Result<(), ReadFault>
     ensures { JudgesNamed (B.meaning book.now) entered.entry result }
 {
-    let finding = judge(book, &entered)?;
-    let at = place_of(entered.file, entered.cards, finding.card)?;
-    Some(told(finding.rule, at))
+    match judge(book, &entered) {
+        Some(finding) => {
+            let at = place_of(entered.file, entered.cards, finding.card);
+            Err(told(finding.rule, at))
+        }
+        None => Ok(()),
+    }
 }
 
-// The lowest rule of the identifiers and of the book that the cards of a file break which keeps the rules of the lines.
-fn judge_cards<B: Book>(file: &[u8], cards: &[Card], book: &B) -> Option<ReadFault>
+// Whether the cards of a file that keeps the rules of the lines keep those of the identifiers and of the book.
+fn judge_cards<B: Book>(file: &[u8], cards: &[Card], book: &B) -> Result<(), ReadFault>
     ensures { length cards.now ≤ 65535 → Judges (B.meaning book.now) file.now cards.now result }
 {
     let mut table = [UNNAMED; MOST];
-    match check_names(file, cards, &mut table) {
-        Ok(names) => judge_named(Entered { file, cards, names }, book),
-        Err(fault) => told_of_names(file, cards, fault),
-    }
+    let names = check_names(file, cards, &mut table).map_err(|fault| told_of_names(
+        file, cards, fault,
+    ))?;
+    judge_named(Entered { file, cards, names }, book)
 }
 
 fn fill_and_judge<B: Book>(file: &[u8], drawer: &mut [Card], book: &B) -> Result<usize, ReadFault>
@@ -67,10 +71,8 @@ fn fill_and_judge<B: Book>(file: &[u8], drawer: &mut [Card], book: &B) -> Result
     let count = fill(file, drawer).map_err(ReadFault::NoCard)?;
     // a count beside the drawer, which is lent and keeps its length: no heap in the eight calls
     let filled = count.min(drawer.len());
-    match judge_cards(file, &drawer[..filled], book) {
-        Some(fault) => Err(fault),
-        None => Ok(count),
-    }
+    judge_cards(file, &drawer[..filled], book)?;
+    Ok(count)
 }
 
 // Reads a tree into the drawer. Accepted, every line but a continuation has a card, in order, and the other cards are

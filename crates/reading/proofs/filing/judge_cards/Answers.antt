@@ -1,9 +1,12 @@
-use Rattle.std.proofs.Common.{refl}
-use Rattle.reading.proofs.Reading.{names_refused, judged}
+use Rattle.std.proofs.Common.{refl, rules}
+use Rattle.std.proofs.lemmas.Result.{err_from_is_err_and}
+use Rattle.reading.proofs.Reading.{names_told, names_judged}
 use Rattle.reading.proofs.filing.judge_cards.Goals as goal
 
-pub returns-in-Ok : goal.returns-in-Ok
-returns-in-Ok g c few = judged (g.B.Book.meaning c.args.book.now) c.args.file.now c.args.cards.now _ c.judge_named.result refl refl (λ room ps s k. c.in-Ok.ensures room ps s k few) c.judge_named.ensures
+pub returns-in_err-names : goal.returns-in_err-names
+returns-in_err-names g c few =
+    let p = err_from_is_err_and c.from_residual.result c.from_residual.ensures.1 in
+    rw (p.1, p.2) (names_told (g.B.Book.meaning c.args.book.now) c.args.file.now c.args.cards.now few c.check_names.result c.check_names.ensures c.in_err-names.field-0.0 (search rules))
 
-pub returns-in-Err : goal.returns-in-Err
-returns-in-Err g c few = names_refused (g.B.Book.meaning c.args.book.now) c.args.file.now c.args.cards.now c.in-Err.fault c.told_of_names.result (λ room ps s k. c.in-Err.ensures room ps s k few) c.told_of_names.ensures
+pub returns : goal.returns
+returns g c few = names_judged (g.B.Book.meaning c.args.book.now) c.args.file.now c.args.cards.now few c.check_names.result c.check_names.ensures _ c.in_ok-names.ensures.cases refl refl c.judge_named.result c.judge_named.ensures
