@@ -84,10 +84,7 @@ pub fn level_of(file: &[u8], card: Card) -> u8
 pub fn tag_of(file: &[u8], card: Card) -> &[u8]
     ensures { TagOf file.now card result.now }
 {
-    match line_at(file, card.byte as usize) {
-        Some(line) => line.tag,
-        None => &file[0..0],
-    }
+    line_at(file, card.byte as usize).map_or(b"", |line| line.tag)
 }
 
 pub fn identifier_of(file: &[u8], card: Card) -> Option<&[u8]>
