@@ -1,5 +1,5 @@
 -- The lines from a place of a file on, as a cursor comes to them. Assumes nothing.
-use Rattle.std.proofs.Common.{◌≡◌, ℕ, zero, suc, ◌+◌, ◌-◌, ◌<◌, ◌≤◌, true, false, cond, ◌⊎◌, List, [], ◌∷◌, ◌++◌, length, get_or, take, drop, Some, sym, refl, ap, ◌∙◌, subst, inl, inr, append-nil, arith, length-append, length-drop, length-take}
+use Rattle.std.proofs.Common.{◌≡◌, ℕ, zero, suc, ◌+◌, ◌-◌, ◌<◌, ◌≤◌, true, false, cond, ◌⊎◌, List, [], ◌∷◌, ◌++◌, length, get_or, take, drop, Some, None, Option, sym, refl, ap, ◌∙◌, subst, inl, inr, append-nil, arith, length-append, length-drop, length-take}
 use Rattle.std.specs.List.{AllByRecursion, prefix_len}
 use Rattle.std.proofs.lemmas.List.{drop-drop, drop_at, get_or-drop, take_rest}
 use Rattle.std.proofs.lemmas.List.Sums.{prefix_len-le-length}
@@ -21,7 +21,9 @@ use Rattle.model.proofs.Refusing.{Front, lined_front}
 use Rattle.lines.specs.declared.steps.Found.{Found}
 use Rattle.lines.specs.Shown.{Shows}
 use Rattle.lines.specs.Steps.{bytes_at, Comes, NoLineAt}
-use Rattle.lines.specs.Iterating.{StopsAt}
+use Rattle.lines.specs.declared.cursor.Cursor.{Cursor}
+use Rattle.lines.specs.Iterating.{StopsAt, GivesNext}
+use Rattle.looking.specs.Looking.{LinesFrom}
 
 -- these lines, each good and with its end, are what stands from a byte on
 pub record Left (file : List ℕ) (from : ℕ) (rest : List Placed) : Type 0 where
@@ -147,6 +149,15 @@ pub left_more : (file : List ℕ) (from : ℕ) (p : Placed) (rest : List Placed)
 left_more file from p rest l (inl h) = let past = left_ended file from p rest l in omega arith
 left_more file from p rest l (inr n) = left_stuck file from (p ∷ rest) l n
 
+-- a cursor before a line comes to one, and is then behind it
+pub given_some : (s t : Cursor) (r : Option Found) (p : Placed) (rest : List Placed) → Left s.file.now s.at (p ∷ rest) → GivesNext s r t → r ≡ None → ⊥
+given_some s t None p rest l (file, stops, stays) e = left_more s.file.now s.at p rest l stops
+given_some s t (Some f) p rest l y e = never f (sym e)
+
+pub given_goes : (s t : Cursor) (r : Option Found) (p : Placed) (rest : List Placed) → Left s.file.now s.at (p ∷ rest) → GivesNext s r t → Left t.file.now t.at rest
+given_goes s t None p rest l (file, stops, stays) = absurd (left_more s.file.now s.at p rest l stops)
+given_goes s t (Some f) p rest l y = subst (λ file. Left file t.at rest) (sym y.file) (left_goes s.file.now s.at s.lines t.at t.lines f p rest l y.comes)
+
 -- The start, and any line
 
 pub left_start : (file : List ℕ) (ps : List Placed) (from : ℕ) → Lined file ps → from ≡ cond (is_marked file) 3 0 → Left file from ps × InPlace from ps
@@ -196,6 +207,19 @@ left_at file ps i l c =
     let from = cond (is_marked file) 3 0 in
     let s = left_start file ps from l refl in
     left_past file from c.before c.line c.more (subst (Left file from) c.are s.0) (subst (InPlace from) c.are s.1)
+
+pub cut_within : (ps : List Placed) (i : ℕ) → Cut ps i → i < length ps
+cut_within ps i c = let n = c.counted in omega (arith, ap length c.are, length-append c.before (c.line ∷ c.more))
+
+-- the lines from the line number i on
+cut_rest : (ps : List Placed) (i : ℕ) (c : Cut ps i) → drop i ps ≡ c.line ∷ c.more
+cut_rest ps i c = ap (drop i) c.are ∙ drop_at c.before (c.line ∷ c.more) i c.counted
+
+pub cut_from : (file : List ℕ) (from : ℕ) (ps : List Placed) (i : ℕ) (c : Cut ps i) → Left file from (c.line ∷ c.more) → LinesFrom file from (drop i ps)
+cut_from file from ps i c l = subst (LinesFrom file from) (sym (cut_rest ps i c)) (l.are, l.good)
+
+pub cut_left : (file : List ℕ) (from : ℕ) (ps : List Placed) (i : ℕ) (c : Cut ps i) → LinesFrom file from (drop i ps) → Left file from (c.line ∷ c.more)
+cut_left file from ps i c h = let (are, good) = subst (LinesFrom file from) (cut_rest ps i c) h in record { are = are; good = good }
 
 -- The rest of a file as a file
 

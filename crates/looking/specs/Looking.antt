@@ -16,7 +16,16 @@ use Rattle.kinds.specs.Contents.{StandsFor}
 use Rattle.lines.specs.declared.line.Payload.{Payload}
 use Rattle.lines.specs.declared.line.Payload.TheVariants as payload
 use Rattle.lines.specs.declared.line.Line.{Line}
+use Rattle.lines.specs.declared.cursor.Cursor.{Cursor}
 use Rattle.lines.specs.Shown.{Shows}
+
+-- these good lines are what stands from a byte on
+abbrev pub LinesFrom : List ℕ → ℕ → List Placed → Type 0
+LinesFrom file from rest = (drop from file ≡ all_bytes rest) × AllByRecursion GoodPlaced rest
+
+-- where a line of the file begins at the byte, a cursor before it
+abbrev pub CursorAt : List ℕ → ℕ → Option Cursor → Type 0
+CursorAt file byte r = (ps : List Placed) (i : ℕ) → Lined file ps → i < length ps → byte_at ps i ≡ byte → IsSomeAnd r (λ s. LinesFrom s.file.now s.at (drop i ps))
 
 -- where a line of the file begins at the byte, that line
 abbrev pub LineAt : List ℕ → ℕ → Option Line → Type 0
@@ -30,10 +39,6 @@ ContinuedAt file byte r = (ps : List Placed) (i : ℕ) → Lined file ps → i <
 abbrev pub BeginsOn : List Placed → Type 0
 BeginsOn [] = ⊥
 BeginsOn (p ∷ ps) = p.line.tag ≡ CONT
-
--- these good lines are what stands from a byte on
-abbrev pub LinesFrom : List ℕ → ℕ → List Placed → Type 0
-LinesFrom file from rest = (drop from file ≡ all_bytes rest) × AllByRecursion GoodPlaced rest
 
 abbrev pub ContinuesNext : List ℕ → ℕ → Bool → Type 0
 ContinuesNext file from r = (rest : List Placed) → LinesFrom file from rest → Decides r (BeginsOn rest)

@@ -2,8 +2,8 @@
 ghost use Rattle.std.specs.Prelude.{◌≡◌};
 ghost use Rattle.looking.specs.Looking.{FurtherAt, text_in};
 
-use crate::shown::is_continuation;
-use lines::{Cursor, Payload};
+use crate::shown::{cursor_at, is_continuation};
+use lines::Payload;
 
 fn text_in(payload: Payload<'_>) -> &[u8]
     ensures { result.now ≡ text_in payload.entry }
@@ -18,10 +18,7 @@ fn text_in(payload: Payload<'_>) -> &[u8]
 pub fn further_at(file: &[u8], byte: usize, number: usize) -> Option<&[u8]>
     ensures { FurtherAt file.now byte number result }
 {
-    if byte >= file.len() {
-        return None;
-    }
-    let mut cursor = Cursor::new(&file[byte..]);
+    let mut cursor = cursor_at(file, byte)?;
     let _own = cursor.next()?;
     for (passed, found) in cursor.enumerate() {
         if !is_continuation(found.line) {

@@ -2,7 +2,7 @@
 ghost use Rattle.std.specs.Prelude.{◌≡◌, ℕ, Decides};
 ghost use Rattle.model.specs.Datasets.{CONT as continuation};
 ghost use Rattle.model.specs.Refusals.{Short};
-ghost use Rattle.looking.specs.Looking.{LineAt, ContinuedAt, PlaceAt, LevelOf, TagOf, IdentifierOf, ContinuesNext, ContentBehind, ContentAt, ContentOf};
+ghost use Rattle.looking.specs.Looking.{CursorAt, LineAt, ContinuedAt, PlaceAt, LevelOf, TagOf, IdentifierOf, ContinuesNext, ContentBehind, ContentAt, ContentOf};
 
 use characters::LIMIT;
 use kinds::Content;
@@ -16,14 +16,19 @@ pub fn is_continuation(line: Line<'_>) -> bool
     line.tag == CONT
 }
 
+// A cursor before the line that begins at a byte.
+pub fn cursor_at(file: &[u8], byte: usize) -> Option<Cursor<'_>>
+    ensures { CursorAt file.now byte result }
+{
+    let rest = file.get(byte..)?;
+    Some(Cursor::new(rest))
+}
+
 // The line that begins at a byte. Where none begins there, the answer says nothing.
 pub fn line_at(file: &[u8], byte: usize) -> Option<Line<'_>>
     ensures { LineAt file.now byte result }
 {
-    if byte >= file.len() {
-        return None;
-    }
-    let found = Cursor::new(&file[byte..]).next()?;
+    let found = cursor_at(file, byte)?.next()?;
     Some(found.line)
 }
 
@@ -31,24 +36,17 @@ pub fn line_at(file: &[u8], byte: usize) -> Option<Line<'_>>
 fn next_continues(cursor: &mut Cursor<'_>) -> bool
     ensures { ContinuesNext cursor.old.file.now cursor.old.at result }
 {
-    match cursor.next() {
-        Some(next) => is_continuation(next.line),
-        None => false,
-    }
+    cursor.next().is_some_and(|next| is_continuation(next.line))
 }
 
 // Whether the line behind the one that begins at a byte continues it.
 pub fn is_continued(file: &[u8], byte: usize) -> bool
     ensures { ContinuedAt file.now byte result }
 {
-    if byte >= file.len() {
+    let Some(mut cursor) = cursor_at(file, byte) else {
         return false;
-    }
-    let mut cursor = Cursor::new(&file[byte..]);
-    match cursor.next() {
-        Some(_) => next_continues(&mut cursor),
-        None => false,
-    }
+    };
+    cursor.next().is_some() && next_continues(&mut cursor)
 }
 
 fn place_in(file: &[u8], byte: usize) -> Place
@@ -80,19 +78,13 @@ pub fn place_at(file: &[u8], byte: usize) -> Place
 pub fn level_of(file: &[u8], card: Card) -> u8
     ensures { LevelOf file.now card result }
 {
-    match line_at(file, card.byte as usize) {
-        Some(line) => line.level,
-        None => 0,
-    }
+    line_at(file, card.byte as usize).map_or(0, |line| line.level)
 }
 
 pub fn tag_of(file: &[u8], card: Card) -> &[u8]
     ensures { TagOf file.now card result.now }
 {
-    match line_at(file, card.byte as usize) {
-        Some(line) => line.tag,
-        None => &file[0..0],
-    }
+    line_at(file, card.byte as usize).map_or(b"", |line| line.tag)
 }
 
 pub fn identifier_of(file: &[u8], card: Card) -> Option<&[u8]>
@@ -124,10 +116,9 @@ fn content_behind<'a>(payload: Payload<'a>, cursor: &mut Cursor<'_>) -> Content<
 fn filed_content(file: &[u8], byte: usize) -> Content<'_>
     ensures { ContentAt file.now byte result }
 {
-    if byte >= file.len() {
+    let Some(mut cursor) = cursor_at(file, byte) else {
         return Content::Nothing;
-    }
-    let mut cursor = Cursor::new(&file[byte..]);
+    };
     match cursor.next() {
         Some(own) => content_behind(own.line.payload, &mut cursor),
         None => Content::Nothing,

@@ -8,7 +8,7 @@ use Rattle.model.specs.Refusals.{refusal_number}
 use Rattle.model.specs.Runs.{Reply, refused, number, seen, line}
 use Rattle.lines.specs.declared.line.Payload as shown
 use Rattle.lines.specs.declared.line.Payload.TheVariants.{None, Void, Pointer, Text}
-use Rattle.viewing.specs.declared.face.Face.{Face}
+use Rattle.lines.specs.declared.line.Line.{Line as Face}
 
 -- parts of the file are compared by their bytes
 abbrev pub bytes_in : Option (Bor (List ℕ)) → Option (List ℕ)

@@ -21,13 +21,11 @@ use model::{Card, Refusal, State};
 fn card_at(drawer: &[Card], card: usize) -> Result<Card, Refusal>
     ensures { CardAt drawer.now card result }
 {
-    if card >= drawer.len() {
-        return Err(Refusal::Past);
-    }
-    match drawer[card].state {
-        State::Blank => Err(Refusal::Past),
-        State::Filed | State::Voided | State::Emptied => Ok(drawer[card]),
-    }
+    drawer
+        .get(card)
+        .copied()
+        .filter(|card| card.state != State::Blank)
+        .ok_or(Refusal::Past)
 }
 
 // The payload of a line with what continues it. Where a text begins with an empty line, that line is an empty part.
@@ -35,14 +33,8 @@ fn first_payload<'f>(file: &'f [u8], byte: usize, payload: Payload<'f>) -> Paylo
     ensures { (ps : List Placed) (e : Entry) → Lined file.now ps → StandsAt ps byte e → value_of payload.entry ≡ first_value e.payload → Settled e.payload → payload_of result ≡ shown_payload e.payload }
 {
     match payload {
-        Payload::None => if is_continued(file, byte) {
-            Payload::Text(&file[0..0])
-        } else {
-            Payload::None
-        },
-        Payload::Void => Payload::Void,
-        Payload::Pointer(pointer) => Payload::Pointer(pointer),
-        Payload::Text(text) => Payload::Text(text),
+        Payload::None if is_continued(file, byte) => Payload::Text(&file[0..0]),
+        other => other,
     }
 }
 
@@ -62,10 +54,8 @@ fn face_of(file: &[u8], card: Card) -> Face<'_>
 {
     match line_at(file, card.byte as usize) {
         Some(line) => Face {
-            level: line.level,
-            identifier: line.identifier,
-            tag: line.tag,
             payload: left_payload(file, card, line.payload),
+            ..line
         },
         None => Face {
             level: 0,

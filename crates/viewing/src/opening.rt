@@ -11,6 +11,7 @@ pub fn open<'f, 'c>(file: &'f [u8], drawer: &'c [Card]) -> Result<View<'f, 'c>, 
     ensures { Opens file.now drawer.now result }
 {
     let mut table = [UNNAMED; MOST];
+    // a match: with map and ok_or the view's ghost field was not proved
     match held(file, drawer, &mut table) {
         Some(_) => Ok(View { file, drawer }),
         None => Err(Refusal::Unheld),

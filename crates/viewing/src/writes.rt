@@ -6,6 +6,7 @@ ghost use Rattle.model.specs.Cards.{Holds};
 ghost use Rattle.model.specs.Runs.{write_reply, written_over};
 ghost use Rattle.writing.specs.Written.{Adds};
 ghost use Rattle.viewing.specs.Answers.{write_answer};
+ghost use Rattle.viewing.specs.Views.{CardsOf};
 
 use crate::view::View;
 use characters::{LIMIT, MARK};
@@ -13,12 +14,19 @@ use holding::count_named;
 use model::{Card, Refusal};
 use writing::{card_size, put, write_card};
 
+// The cards of the dataset, without the blank ones behind them.
+fn named(drawer: &[Card]) -> &[Card]
+    ensures { CardsOf drawer.now result.now }
+{
+    &drawer[..count_named(drawer)]
+}
+
 // Writes the cards of the dataset to a place of the buffer, and answers where they end.
 fn write_cards(file: &[u8], drawer: &[Card], buffer: &mut [u8], at: usize) -> usize
     ensures { (d : Dataset) → Holds file.now drawer.now d → Adds buffer.old at (with_line_feeds (lines d)) result buffer.new }
 {
     let mut end = at;
-    for card in &drawer[..count_named(drawer)] {
+    for card in named(drawer) {
         end = write_card(file, *card, buffer, end);
     }
     end
@@ -30,7 +38,7 @@ impl View<'_, '_> {
         ensures { (d : Dataset) → Holds self.now.file.now self.now.drawer.now d → result ≡ length (written d) }
     {
         let mut size = MARK.len();
-        for card in &self.drawer[..count_named(self.drawer)] {
+        for card in named(self.drawer) {
             size += card_size(self.file, *card);
         }
         size

@@ -1,5 +1,5 @@
 -- The CONT lines that follow a line, one after the other. Assumes nothing.
-use Rattle.std.proofs.Common.{◌≡◌, ℕ, ◌+◌, ◌<◌, ◌≤◌, List, [], ◌∷◌, ◌++◌, length, drop, sym, refl, ap, ◌∙◌, subst, arith, length-take}
+use Rattle.std.proofs.Common.{◌≡◌, ℕ, ◌+◌, ◌<◌, ◌≤◌, List, [], ◌∷◌, ◌++◌, length, drop, Some, None, Option, sym, refl, ap, ◌∙◌, subst, arith, length-take}
 use mathlib.Core.List.{head-eq_of_cons-eq, tail-eq_of_cons-eq}
 use Rattle.model.specs.Lines.{Line, spell}
 use Rattle.model.specs.Datasets.{CONT, continuations, Entry}
@@ -8,7 +8,8 @@ use Rattle.model.specs.Refusals.{lines_of}
 use Rattle.model.proofs.Parts.{not_nil}
 use Rattle.lines.specs.declared.steps.Found.{Found}
 use Rattle.lines.specs.Steps.{bytes_at, Comes}
-use Rattle.lines.specs.Iterating.{StopsAt}
+use Rattle.lines.specs.declared.cursor.Cursor.{Cursor}
+use Rattle.lines.specs.Iterating.{StopsAt, GivesNext}
 use Rattle.looking.proofs.Left.{Left, left_more, left_stops, left_comes, left_goes, left_shows, left_bytes}
 use Rattle.looking.proofs.Trailing.{Whole}
 use Rattle.lines.specs.Shown.{Shows}
@@ -17,7 +18,7 @@ use Rattle.model.specs.LineTurns.{line_end, next_line, is_pair}
 use Rattle.std.proofs.lemmas.Bool.{cond_both}
 use Rattle.std.specs.List.{prefix_len}
 use Rattle.std.proofs.lemmas.List.Sums.{prefix_len-le-length}
-use Rattle.writing.specs.Own.{Trails, NextOf, Before, OwnOf}
+use Rattle.writing.specs.Own.{Trails, NextOf, Before, OwnOf, OwnNext, Passed}
 
 -- before the own line of an entry
 pub before_start : (file : List ℕ) (from : ℕ) (ps : List Placed) (b : ℕ) (e : Entry) (w : Whole ps b e) → Left file from (w.cut.line ∷ w.cut.more) → Before file from e
@@ -45,6 +46,15 @@ comes_past file from n next n' f c bytes =
     let end = line_end file from in
     let past : end < next_line file end = cond_both (is_pair file end) (end + 2) (end + 1) (λ k. end < k) (λ q. omega arith) (λ q. omega arith) in
     omega (arith, length-take (prefix_len in_line bs) bs, prefix_len-le-length in_line bs)
+
+-- the same of whatever comes next
+pub own_given : (s t : Cursor) (r : Option Found) → GivesNext s r t → OwnNext s.file.now s.at t.file.now t.at r
+own_given s t None (file, stops, stays) e b = before_end s.file.now s.at e b stops
+own_given s t (Some f) y e b = subst (λ file. OwnOf f file t.at e) (sym y.file) (own_comes s.file.now s.at _ _ _ f e b y.comes y.bytes)
+
+pub passed_given : (s t : Cursor) (r : Option Found) → GivesNext s r t → Passed t.at r
+passed_given s t None g = tt
+passed_given s t (Some f) y = let past = comes_past s.file.now s.at _ _ _ f y.comes y.bytes in omega arith
 
 no_texts : (level : ℕ) (ts : List (List ℕ)) → ◌≡◌ {A = List Line} [] (continuations level ts) → ts ≡ []
 no_texts level [] e = refl

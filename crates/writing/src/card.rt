@@ -6,7 +6,7 @@ ghost use Rattle.looking.specs.Looking.{Shown};
 ghost use Rattle.writing.specs.Written.{Adds, card_bytes};
 ghost use Rattle.writing.specs.Own.{Trails};
 
-use crate::continued::{cursor_at, next_continuation, own_line};
+use crate::continued::{cursor_at, next_continuation};
 use crate::copying::{put, put_line};
 use crate::head::head;
 use lines::{Cursor, VOID};
@@ -31,7 +31,7 @@ pub fn card_size(file: &[u8], card: Card) -> usize
     ensures bound { result ≤ length file.now + 8 }
 {
     let mut cursor = cursor_at(file, card.byte as usize);
-    let Some(own) = own_line(&mut cursor) else {
+    let Some(own) = cursor.next() else {
         return 0;
     };
     match card.state {
@@ -65,7 +65,7 @@ pub fn write_card(file: &[u8], card: Card, buffer: &mut [u8], at: usize) -> usiz
     ensures { (e : Entry) → Shown file.now card e → Adds buffer.old at (card_bytes e) result buffer.new }
 {
     let mut cursor = cursor_at(file, card.byte as usize);
-    let Some(own) = own_line(&mut cursor) else {
+    let Some(own) = cursor.next() else {
         return at;
     };
     match card.state {

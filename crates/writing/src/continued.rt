@@ -1,8 +1,8 @@
 // The line of a card and those that continue it.
 ghost use Rattle.std.specs.Prelude.{◌≡◌, ◌≤◌, length};
-ghost use Rattle.writing.specs.Own.{BeforeAt, OwnNext, Passed, GoesOn, Advances};
+ghost use Rattle.writing.specs.Own.{BeforeAt, GoesOn, Advances};
 
-use lines::{Cursor, Found};
+use lines::Cursor;
 use looking::is_continuation;
 
 // A cursor before the line that begins at a byte.
@@ -13,15 +13,6 @@ pub fn cursor_at(file: &[u8], byte: usize) -> Cursor<'_>
     Cursor::new(&file[byte.min(file.len())..])
 }
 
-// The next line, whichever it is.
-pub fn own_line<'a>(cursor: &mut Cursor<'a>) -> Option<Found<'a>>
-    ensures own { OwnNext cursor.old.file.now cursor.old.at cursor.new.file.now cursor.new.at result }
-    ensures passed { Passed cursor.new.at result }
-    ensures file { cursor.new.file.now ≡ cursor.old.file.now }
-{
-    cursor.next()
-}
-
 // The bytes of the next line, if it continues the text.
 pub fn next_continuation<'a>(cursor: &mut Cursor<'a>) -> Option<&'a [u8]>
     ensures file { cursor.new.file.now ≡ cursor.old.file.now }
@@ -29,9 +20,5 @@ pub fn next_continuation<'a>(cursor: &mut Cursor<'a>) -> Option<&'a [u8]>
     ensures advances { Advances cursor.old.at cursor.new.at result }
 {
     let found = cursor.next()?;
-    if is_continuation(found.line) {
-        Some(found.bytes)
-    } else {
-        None
-    }
+    is_continuation(found.line).then_some(found.bytes)
 }

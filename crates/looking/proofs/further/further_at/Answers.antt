@@ -3,23 +3,21 @@ use Rattle.std.specs.List.{slice_get}
 use Rattle.std.proofs.lemmas.Bool.Decides.{not_from_Decides}
 use Rattle.model.specs.Datasets.{Entry}
 use Rattle.lines.specs.declared.cursor.Cursor.{Cursor}
-use Rattle.looking.proofs.Left.{left_here, left_at, left_ended, left_more}
+use Rattle.looking.proofs.Left.{cut_within, cut_left, left_more}
 use Rattle.looking.proofs.Trailing.{Trailing, whole_of, trailing_start, trailing_end, trailing_comes, text_is}
 use Rattle.looking.proofs.further.further_at.Goals as goal
 
-pub returns-then-byte-file : goal.returns-then-byte-file
-returns-then-byte-file c ps e l s =
+pub returns-in_err-cursor : goal.returns-in_err-cursor
+returns-in_err-cursor c ps e l s =
     let w = whole_of ps c.args.byte e s in
-    let past = left_ended c.args.file.now w.cut.line.byte w.cut.line w.cut.more (left_at c.args.file.now ps w.place l w.cut) in
-    let here = w.cut.byte in
-    let there = w.begins in
-    absurd (omega arith)
+    absurd (c.in_err-cursor.ensures ps w.place l (cut_within ps w.place w.cut) w.begins)
 
 pub returns-in_err-_own : goal.returns-in_err-_own
 returns-in_err-_own c ps e l s =
+    let at = c.in_ok-cursor.cursor in
     let w = whole_of ps c.args.byte e s in
-    let left = left_here c.args.file.now ps w.place c.args.byte c.new-cursor.result.file.now c.new-cursor.result.at l w.cut w.begins c.new-cursor.ensures.file c.new-cursor.ensures.start.0 in
-    absurd (left_more c.new-cursor.result.file.now c.new-cursor.result.at w.cut.line w.cut.more left c.in_err-_own.ensures.steps.1)
+    let left = cut_left at.file.now at.at ps w.place w.cut (c.in_ok-cursor.ensures ps w.place l (cut_within ps w.place w.cut) w.begins) in
+    absurd (left_more at.file.now at.at w.cut.line w.cut.more left c.in_err-_own.ensures.steps.1)
 
 moved : (s t : Cursor) (k m number : ℕ) (e : Entry) → t ≡ s → m ≡ k → Trailing s.file.now s.at k number e → Trailing t.file.now t.at m number e
 moved s t k m number e p q x = subst (λ (c : Cursor). Trailing c.file.now c.at m number e) (sym p) (subst (λ j. Trailing s.file.now s.at j number e) (sym q) x)
@@ -33,10 +31,11 @@ loop-passed-init c =
       omega arith,
       λ ps e l s.
           let w = whole_of ps c.args.byte e s in
-          let left = left_here c.args.file.now ps w.place c.args.byte c.new-cursor.result.file.now c.new-cursor.result.at l w.cut w.begins c.new-cursor.ensures.file c.new-cursor.ensures.start.0 in
+          let at = c.in_ok-cursor.cursor in
+          let left = cut_left at.file.now at.at ps w.place w.cut (c.in_ok-cursor.ensures ps w.place l (cut_within ps w.place w.cut) w.begins) in
           moved c.next.new.self c.into_iter-passed-iterator.result.iter 0 c.into_iter-passed-iterator.result.count c.args.number e it none
           (subst (λ f. Trailing f c.next.new.self.at 0 c.args.number e) (sym c.in_ok-_own.ensures.steps.file)
-          (trailing_start c.new-cursor.result.file.now c.new-cursor.result.at c.new-cursor.result.lines c.next.new.self.at c.next.new.self.lines c.args.number c.in_ok-_own._own ps c.args.byte e w left c.in_ok-_own.ensures.steps.comes)),
+          (trailing_start at.file.now at.at at.lines c.next.new.self.at c.next.new.self.lines c.args.number c.in_ok-_own._own ps c.args.byte e w left c.in_ok-_own.ensures.steps.comes)),
     )
 
 pub returns-then-not-is_continuation : goal.returns-then-not-is_continuation

@@ -1,26 +1,35 @@
-use Rattle.std.proofs.Common.{◌≡◌, ℕ, List, [], Option, MatchOption, sym, subst, arith}
+use Rattle.std.proofs.Common.{◌≡◌, ℕ, Bool, true, false, List, [], Option, MatchOption, Decides, refl, sym, subst, arith}
 use Rattle.std.specs.Borrow.{Bor}
-use Rattle.writing.specs.Own.{NextOf, Advances}
+use Rattle.std.specs.Bool.{then_some}
+use Rattle.model.specs.Datasets.{CONT}
+use Rattle.lines.specs.declared.cursor.Cursor.{Cursor}
+use Rattle.lines.specs.declared.steps.Found.{Found}
+use Rattle.lines.specs.Iterating.{Yields}
+use Rattle.writing.specs.Own.{NextOf, GoesOn, Advances}
 use Rattle.std.proofs.lemmas.Bool.Decides.{not_from_Decides}
 use Rattle.writing.proofs.Trails.{trails_next, trails_stop, trails_end, comes_past}
 use Rattle.writing.proofs.continued.next_continuation.Goals as goal
 
-pub returns-then-is_continuation : goal.returns-then-is_continuation
-returns-then-is_continuation c =
-    let step = c.in_ok-found.ensures.steps in
-    record {
-      file = step.file;
-      goes = λ level texts t. trails_next c.args.cursor.now.file.now c.args.cursor.now.at _ _ _ level c.in_ok-found.found step.comes step.bytes texts t (c.is_continuation.ensures.0 c.if-is_continuation.true);
-      advances = comes_past c.args.cursor.now.file.now c.args.cursor.now.at _ _ _ c.in_ok-found.found step.comes step.bytes;
-    }
+module _ (s : Cursor) (f : Found) (t : Cursor) (y : Yields s f t) where
+  goes : (b : Bool) → Decides b (f.line.tag.now ≡ CONT) → GoesOn s.file.now s.at t.at (then_some b f.bytes)
+  goes true d level texts trails = trails_next s.file.now s.at _ _ _ level f y.comes y.bytes texts trails (d.0 refl)
+  goes false d level texts trails = trails_stop s.file.now s.at _ _ _ level f y.comes y.bytes texts trails (not_from_Decides false d refl)
 
-pub returns-else-is_continuation : goal.returns-else-is_continuation
-returns-else-is_continuation c =
+  advances : (b : Bool) → Advances s.at t.at (then_some b f.bytes)
+  advances true = comes_past s.file.now s.at _ _ _ f y.comes y.bytes
+  advances false = let past = comes_past s.file.now s.at _ _ _ f y.comes y.bytes in omega arith
+
+pub returns : goal.returns
+returns c =
+    let s = c.args.cursor.now in
+    let t = c.next.new.self in
+    let f = c.in_ok-found.found in
     let step = c.in_ok-found.ensures.steps in
+    let is = sym c.then_some.ensures in
     record {
       file = step.file;
-      goes = λ level texts t. trails_stop c.args.cursor.now.file.now c.args.cursor.now.at _ _ _ level c.in_ok-found.found step.comes step.bytes texts t (not_from_Decides c.is_continuation.result c.is_continuation.ensures c.if-is_continuation.false);
-      advances = let past = comes_past c.args.cursor.now.file.now c.args.cursor.now.at _ _ _ c.in_ok-found.found step.comes step.bytes in omega arith;
+      goes = subst (GoesOn s.file.now s.at t.at) is (goes s f t step c.is_continuation.result c.is_continuation.ensures);
+      advances = subst (Advances s.at t.at) is (advances s f t step c.is_continuation.result);
     }
 
 pub returns-in_err-found : goal.returns-in_err-found

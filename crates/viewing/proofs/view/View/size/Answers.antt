@@ -4,7 +4,7 @@ use Rattle.std.proofs.Math.Bridge.{le_prop}
 use Rattle.model.specs.Cards.{Holds}
 use Rattle.model.specs.Datasets.{Dataset, entries}
 use Rattle.model.specs.Edits.{no_entry}
-use Rattle.viewing.proofs.Named.{held_few, taken_long, taken_card}
+use Rattle.viewing.proofs.Named.{held_few}
 use Rattle.viewing.proofs.Fronts.{front_long, front_all}
 use Rattle.viewing.proofs.view.View.size.Goals as goal
 
@@ -16,7 +16,8 @@ overflow_add-size c =
     let low : c.loop-card.size + c.card_size-size.result < 18446744073709551616 = ∥∥₁_elim c.args.self.now.held le_prop (λ (held : (d : Dataset) × Holds file cards d).
     let (d, h) = held in
     let (is, low) = c.loop-card.invariant d h in
-    let (inside, shows) = taken_card file cards d h c.count_named.result c.count_named.ensures c.loop-card.card-index c.loop-card-test.true in
+    let (long, shown) = c.named-card-items.ensures file d h in
+    let lt = c.loop-card-test.true in
     let few = held_few file cards d h in
     let bound = c.card_size-size.ensures.bound in
     let short = h.passes.short in
@@ -29,13 +30,15 @@ loop-card-preserved c d h =
     let cards = c.args.self.now.drawer.now in
     let k = c.loop-card.card-index in
     let (is, low) = c.loop-card.invariant d h in
-    let (inside, shows) = taken_card file cards d h c.count_named.result c.count_named.ensures k c.loop-card-test.true in
-    let one = c.card_size-size.ensures.size (get_or (entries d) k no_entry) shows in
+    let (long, shown) = c.named-card-items.ensures file d h in
+    let lt = c.loop-card-test.true in
+    let inside : k < length (entries d) = omega arith in
+    let one = c.card_size-size.ensures.size (get_or (entries d) k no_entry) (shown k lt) in
     let bound = c.card_size-size.ensures.bound in
     let short = h.passes.short in
     (omega (arith, front_long d k inside), omega arith)
 
 pub returns : goal.returns
 returns c d h =
-    let all = taken_long c.args.self.now.file.now c.args.self.now.drawer.now d h c.count_named.result c.count_named.ensures in
+    let all = (c.named-card-items.ensures c.args.self.now.file.now d h).0 in
     (c.loop-card.invariant d h).0 ∙ ap length (front_all d c.loop-card.card-index (omega arith))
