@@ -53,6 +53,7 @@ fn place_in(file: &[u8], byte: usize) -> Place
     requires { Short file.now }
     ensures { PlaceAt file.now byte result }
 {
+    // a loop: with find and map_or the bounds of the two casts were not proved
     for found in Cursor::new(file) {
         if found.byte == byte {
             return Place {

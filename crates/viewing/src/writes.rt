@@ -38,6 +38,7 @@ impl View<'_, '_> {
         ensures { (d : Dataset) → Holds self.now.file.now self.now.drawer.now d → result ≡ length (written d) }
     {
         let mut size = MARK.len();
+        // a loop: with map and sum the bound of the sum was not proved
         for card in named(self.drawer) {
             size += card_size(self.file, *card);
         }
