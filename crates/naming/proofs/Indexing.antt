@@ -1,5 +1,5 @@
 -- The index of identifiers: how it is collected, and what is found in it. Assumes nothing.
-use Rattle.std.proofs.Common.{◌≡◌, ℕ, ◌+◌, ◌<◌, ◌≤◌, min, List, [], ◌∷◌, map, length, get_or, set, take, Bool, true, false, is_none, Some, None, Option, Ok, Err, Result, Ordering, Less, Equal, Greater, sym, refl, ap, ◌∙◌, subst, inl, inr, true≢false, arith, Bor}
+use Rattle.std.proofs.Common.{◌≡◌, ℕ, ◌+◌, ◌<◌, ◌≤◌, min, List, [], ◌∷◌, ◌++◌, map, length, get_or, set, take, Bool, true, false, is_none, Some, None, Option, Ok, Err, Result, Ordering, Less, Equal, Greater, sym, refl, ap, ◌∙◌, subst, inl, inr, true≢false, arith, length-append, length-take, Bor}
 use lib.ListN.{length-map}
 use Rattle.std.specs.Cmp.{nat_cmp_total, on_total}
 use Rattle.std.specs.Cmp.Lexicographic.{slice_cmp, lists_total}
@@ -9,8 +9,8 @@ use Rattle.std.specs.List.Sorted.{IsPartitionPoint, IsNonDecreasingBy, IsSortedB
 use Rattle.std.specs.List.{AllWithin, HoldsAt}
 use Rattle.std.specs.Result.{result_ok}
 use Rattle.std.proofs.ByRecursion.{All-get_or}
-use Rattle.std.proofs.lemmas.List.{take_all, take_more_set, get_or-map, get_or_default}
-use Rattle.std.proofs.lemmas.List.Sorted.{searchable_from_sorted}
+use Rattle.std.proofs.lemmas.List.{take_all, take_at, take_more_set, get_or-map, get_or_default}
+use Rattle.std.proofs.lemmas.List.Sorted.{length_permutation, searchable_from_sorted}
 use Rattle.std.proofs.lemmas.Bool.{cases_lt}
 use Rattle.model.specs.declared.Card.{Card}
 use Rattle.model.specs.Lines.{Line, pointer}
@@ -21,7 +21,7 @@ use Rattle.model.specs.LineTurns.{Noted, RulesKept}
 use Rattle.model.specs.Index.{place_of, card_line, card_spot, key, name_of, CardsNoted, Indexed, LeastRepeat}
 use Rattle.model.proofs.Index.{apart_noted, card_aimed, card_lost, card_pointless, aimed_noted, least_same}
 use Rattle.model.proofs.Sorting.{Collected, collected_skip, collected_more, collected_shuffled, sorted_indexed, byte_strict, byte_total}
-use Rattle.naming.specs.Naming.{Name, ByteLess, InOrder, IndexOf, LeastName, Target, FindsName, TargetOf, CardShows, ShowsPointer, IsLost, FindsLost}
+use Rattle.naming.specs.Naming.{Name, ByteLess, InOrder, IndexOf, LeastName, Collects, Indexes, Target, FindsName, TargetOf, CardShows, ShowsPointer, IsLost, FindsLost}
 
 abbrev pub Gathered : List Placed → ℕ → List Name → Type 0
 Gathered ps n names = Collected (λ (e : Name). e.0.now) (λ (e : Name). e.1) ps n names
@@ -51,6 +51,16 @@ pub index_of : (ps : List Placed) (xs ys : List Name) → Gathered ps (length (o
 index_of ps xs ys c s up =
     let g = collected_shuffled (λ (e : Name). e.0.now) (λ (e : Name). e.1) ps (length (others ps)) xs ys s c in
     record { order = up; each = g.each; index = indexed_by ps xs ys c s up g }
+
+-- the front of a table, put in order
+pub index_front : (file : List ℕ) (cards : List Card) (n : ℕ) (table ys post : List Name) → Collects file cards n table → IsPermutation (take n table) ys → InOrder ys → Indexes file cards n (ys ++ post)
+index_front file cards n table ys post c s up =
+    let within = c.within in
+    let long : length ys ≡ n = length_permutation (take n table) ys s ∙ (let z = length-take n table in omega arith) in
+    record {
+      within = omega (arith, length-append ys post);
+      index = λ ps shows. subst (IndexOf ps) (sym (take_at ys post n long)) (index_of ps (take n table) ys (c.collected ps shows) s up);
+    }
 
 -- What a search finds
 

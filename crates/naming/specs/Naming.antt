@@ -76,9 +76,9 @@ pub record Collects (file : List ℕ) (cards : List Card) (n : ℕ) (out : List 
   pub within : n ≤ length out
   pub collected : (ps : List Placed) → CardsShow file cards ps → Collected (λ (e : Name). e.0.now) (λ (e : Name). e.1) ps (length (others ps)) (take n out)
 
--- names are the index of the lines that the cards show
-abbrev pub Indexes : List ℕ → List Card → List Name → Type 0
-Indexes file cards names = (ps : List Placed) → CardsShow file cards ps → IndexOf ps names
+pub record Indexes (file : List ℕ) (cards : List Card) (n : ℕ) (out : List Name) : Type 0 where
+  pub within : n ≤ length out
+  pub index : (ps : List Placed) → CardsShow file cards ps → IndexOf ps (take n out)
 
 abbrev pub LeastName : List Name → ℕ → Option ℕ → Type 0
 LeastName names n r = (d : Name) → LeastRepeat (λ a. (get_or names a d).0.now) (λ a. (get_or names a d).1) n r
@@ -105,11 +105,10 @@ FindsLost file cards names r = (room : ℕ) (ps : List Placed) → CardsShow fil
 
 -- What the rules 12 and 13 find
 
-abbrev pub NamesFound : ℕ → List Placed → Result (Bor (List Name)) NameFault → Type 0
-NamesFound room ps (Ok names) = Noted (LineKeeps apart room ps) ps None × Noted (LineKeeps aimed room ps) ps None × IndexOf ps names.now
-NamesFound room ps (Err (Repeated k)) = Noted (LineKeeps apart room ps) ps (card_spot ps (Some k))
-NamesFound room ps (Err (Lost k)) = Noted (LineKeeps apart room ps) ps None × Noted (LineKeeps aimed room ps) ps (card_spot ps (Some k))
+abbrev pub NamesFound : ℕ → List Placed → Result ℕ NameFault → List Name → Type 0
+NamesFound room ps (Ok n) out = Noted (LineKeeps apart room ps) ps None × Noted (LineKeeps aimed room ps) ps None × IndexOf ps (take n out)
+NamesFound room ps (Err (Repeated k)) out = Noted (LineKeeps apart room ps) ps (card_spot ps (Some k))
+NamesFound room ps (Err (Lost k)) out = Noted (LineKeeps apart room ps) ps None × Noted (LineKeeps aimed room ps) ps (card_spot ps (Some k))
 
--- of cards for which a table has entries
-abbrev pub NamesFit : List ℕ → List Card → ℕ → Result (Bor (List Name)) NameFault → Type 0
-NamesFit file cards entries r = (room : ℕ) (ps : List Placed) → CardsShow file cards ps → RulesKept 11 room ps → length cards ≤ entries → NamesFound room ps r
+abbrev pub NamesFit : List ℕ → List Card → List Name → Result ℕ NameFault → List Name → Type 0
+NamesFit file cards table r out = (room : ℕ) (ps : List Placed) → CardsShow file cards ps → RulesKept 11 room ps → length cards ≤ length table → NamesFound room ps r out

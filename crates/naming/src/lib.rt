@@ -2,7 +2,7 @@
 // table of an index stay parameters, since each is lent by another.
 #![tactic(auto)]
 
-ghost use Rattle.std.specs.Prelude.{◌≡◌, ◌<◌, ◌≤◌, length};
+ghost use Rattle.std.specs.Prelude.{◌≡◌, ◌<◌, ◌≤◌, length, IfOk};
 ghost use Rattle.naming.specs.Naming.{ShowsName, ShowsPointer, LeastName, FindsName, FindsLost, NamesFit, Collects, Indexes, IsLost, TargetOf};
 
 use lines::Payload;
@@ -49,8 +49,7 @@ fn collect<'a>(file: &'a [u8], cards: &[Card], table: &mut [Named<'a>]) -> usize
     requires { length cards.now ≤ length table.old }
     ensures { Collects file.now cards.now result table.new }
 {
-    // a count of what is filled, and no arrayvec: the table, of 65,535 entries, is the caller's, and `check_names` answers a slice
-    // of it
+    // a count of what is filled, and no arrayvec: the table, of 65,535 entries, is the caller's
     let mut count = 0;
     for (card, shown) in cards.iter().enumerate() {
         if let Some(name) = shown_name(file, *shown) {
@@ -61,15 +60,14 @@ fn collect<'a>(file: &'a [u8], cards: &[Card], table: &mut [Named<'a>]) -> usize
     count
 }
 
-// The index of the cards, at the front of the table.
-fn index<'a, 't>(file: &'a [u8], cards: &[Card], table: &'t mut [Named<'a>]) -> &'t [Named<'a>]
+// Fills the front of the table with the index of the cards, and answers how much of it that is.
+fn index<'a>(file: &'a [u8], cards: &[Card], table: &mut [Named<'a>]) -> usize
     requires { length cards.now ≤ length table.old }
-    ensures { Indexes file.now cards.now result.now }
+    ensures { Indexes file.now cards.now result table.new }
 {
     let count = collect(file, cards, table);
-    let names = &mut table[..count];
-    names.sort_unstable();
-    names
+    table[..count].sort_unstable();
+    count
 }
 
 // The least card whose identifier the one before it in the index has too.
@@ -111,23 +109,26 @@ fn lost(file: &[u8], cards: &[Card], names: &[Named<'_>]) -> Option<usize>
     cards.iter().position(|card| is_lost(file, *card, names))
 }
 
-// Whether the identifiers of the cards are apart and their pointers name them. Then the answer is the index of them, which
-// stands at the front of the table. The table has to be as long as there are cards.
-pub fn check_names<'a, 't>(
+// Whether the identifiers of the cards are apart and their pointers name them. Then the front of the table is the index of
+// them, and the answer is how much of it. The table has to be as long as there are cards. The count, since no clause could say
+// what the table holds after the call if a part of it were lent on.
+pub fn check_names<'a>(
     file: &'a [u8],
     cards: &[Card],
-    table: &'t mut [Named<'a>],
-) -> Result<&'t [Named<'a>], NameFault>
-    ensures { NamesFit file.now cards.now (length table.old) result }
+    table: &mut [Named<'a>],
+) -> Result<usize, NameFault>
+    ensures names { NamesFit file.now cards.now table.old result table.new }
+    ensures within { IfOk result (λ n. n ≤ length table.new) }
 {
     // of cards for which there is no room, those before them
     let cards = &cards[..cards.len().min(table.len())];
-    let names = index(file, cards, table);
+    let count = index(file, cards, table);
+    let names = &table[..count];
     if let Some(card) = repeated(names) {
         return Err(NameFault::Repeated(card));
     }
     if let Some(card) = lost(file, cards, names) {
         return Err(NameFault::Lost(card));
     }
-    Ok(names)
+    Ok(count)
 }

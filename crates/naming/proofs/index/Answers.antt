@@ -1,9 +1,5 @@
-use Rattle.std.proofs.Common.{take}
-use Rattle.naming.proofs.Indexing.{index_of}
+use Rattle.naming.proofs.Indexing.{index_front}
 use Rattle.naming.proofs.index.Goals as goal
 
 pub returns : goal.returns
-returns c ps s =
-    let n = c.collect-count.result in
-    let table = c.collect-count.new.table in
-    index_of ps (take n table) c.sort_unstable.new.self (c.collect-count.ensures.collected ps s) c.sort_unstable.ensures.permutation c.sort_unstable.ensures.sorted
+returns c = index_front c.args.file.now c.args.cards.now c.collect-count.result c.collect-count.new.table c.sort_unstable.new.self _ c.collect-count.ensures c.sort_unstable.ensures.permutation c.sort_unstable.ensures.sorted
