@@ -49,8 +49,8 @@ fn collect<'a>(file: &'a [u8], cards: &[Card], table: &mut [Named<'a>]) -> usize
     requires { length cards.now ≤ length table.old }
     ensures { Collects file.now cards.now result table.new }
 {
-    // a count of what is filled, and no arrayvec: the table, of 65,535 entries, is the caller's, and `check_names` answers a slice
-    // of it
+    // a count of what is filled, and no arrayvec: the table, of 65,535 entries, is the caller's, and `check_names` answers a
+    // slice of it
     let mut count = 0;
     for (card, shown) in cards.iter().enumerate() {
         if let Some(name) = shown_name(file, *shown) {
