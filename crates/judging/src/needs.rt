@@ -1,9 +1,9 @@
 // The rule that each type that is needed under a structure, or at the top, stands there.
-ghost use Rattle.std.specs.Prelude.{ℕ, ◌≤◌, List, Decides, Option};
+ghost use Rattle.std.specs.Prelude.{ℕ, ◌≤◌, List, Option};
 ghost use Rattle.std.specs.Result.{result_err};
 ghost use Rattle.model.specs.Datasets.{Entry};
 ghost use Rattle.model.specs.Refusals.{needed};
-ghost use Rattle.model.specs.Positions.{NeedMet, LackIn, LackOf, Ahead};
+ghost use Rattle.model.specs.Positions.{LackIn, LackOf, Ahead};
 ghost use Rattle.judging.specs.CardRules.{Answers};
 ghost use Rattle.judging.specs.Marks.{Marked};
 ghost use Rattle.judging.specs.Sets.{bit, Clear, TypesOf};
@@ -16,24 +16,20 @@ use books::Book;
 use model::Context;
 
 impl<B: Book, E: Entries> Cards<'_, B, E> {
-    // Whether need number `j` of the context is in the set of that level.
-    fn is_met(&self, context: Context, sets: &Sets, level: usize, j: usize) -> bool
-        requires { level ≤ 64 }
-        ensures { (ts : List (Option ℕ)) → TypesOf (bit sets.now.levels level) ts → Decides result (NeedMet (B.meaning self.now.book.now) context ts j) }
-    {
-        self.book
-            .need(context, j)
-            .is_none_or(|typed| sets.has(level, typed))
-    }
-
     // The first type that the context needs and that is not in the set of that level.
     fn first_missing(&self, context: Context, sets: &Sets, level: usize) -> Option<u16>
         requires { level ≤ 64 }
         ensures { (ts : List (Option ℕ)) → TypesOf (bit sets.now.levels level) ts → LackIn (B.meaning self.now.book.now) context ts result }
     {
-        (0..self.book.needs(context))
-            .find(|j| !self.is_met(context, sets, level, *j))
-            .and_then(|j| self.book.need(context, j))
+        (0..self.book.needs(context)).find_map(
+            |j|
+                requires { level ≤ 64 }
+            {
+                self.book
+                    .need(context, j)
+                    .filter(|typed| !sets.has(level, *typed))
+            },
+        )
     }
 
     // The first card that lacks a type, with that type. The cards are passed from the last to the first, so that what stands

@@ -10,7 +10,8 @@ use crate::sets::Sets;
 use books::Book;
 
 impl<B: Book, E: Entries> Cards<'_, B, E> {
-    // Whether no card follows one of its type under its superstructure where only one may stand; if one does, the first is told.
+    // Whether no card follows one of its type under its superstructure where only one may stand; if one does, the first is
+    // told.
     pub fn check_repeats(&self) -> Result<(), Finding>
         ensures { Answers (B.meaning self.now.book.now) (E.shows self.now.entries.now) self.now.marks.now single (result_err result) }
     {
