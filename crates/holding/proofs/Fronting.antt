@@ -1,5 +1,5 @@
 -- The cards that name lines, and a file that passes no check. Assumes nothing.
-use Rattle.std.proofs.Common.{◌≡◌, ℕ, ◌<◌, ◌≤◌, false, List, length, take, drop, Some, None, Ok, Err, Result, sym, refl, ap, ◌∙◌, subst, inl, inr, arith, length-take, Bor}
+use Rattle.std.proofs.Common.{◌≡◌, ℕ, ◌<◌, ◌≤◌, false, List, length, take, drop, Some, None, Ok, Err, Result, IfOk, sym, refl, ap, ◌∙◌, subst, inl, inr, arith, length-take}
 use lib.ListN.{length-map}
 use Rattle.std.specs.List.{AllByRecursion}
 use Rattle.std.proofs.ByRecursion.{All-from_get_or}
@@ -123,7 +123,7 @@ module _ (file : List ℕ) (cards : List Card) (n : ℕ) (d : Dataset) (f : Name
 throughout : (K : List Line → ℕ → Type 0) (qs : List Placed) → ((i : ℕ) → i < length qs → K (lines_of qs) i) → Throughout K (lines_of qs)
 throughout K qs h i l = h i (omega (arith, length-map qs (λ q. q.line)))
 
-module _ (file : List ℕ) (cards : List Card) (n room : ℕ) (f : Front file cards n) (low : n ≤ room) where
+module _ (file : List ℕ) (cards : List Card) (n : ℕ) (f : Front file cards n) (table out : List Name) (low : n ≤ length table) where
   abbrev cs : List Card
   cs = take n cards
 
@@ -136,26 +136,28 @@ module _ (file : List ℕ) (cards : List Card) (n room : ℕ) (f : Front file ca
   long : length cs ≡ n
   long = let w = f.named.within in omega (arith, length-take n cards)
 
-  found : (r : Result (Bor (List Name)) NameFault) → NamesFit file cs room r → NamesFound 0 left r
+  found : (r : Result ℕ NameFault) → NamesFit file cs table r out → NamesFound 0 left r out
   found r fit = fit 0 left (cards_show file f.placed f.passes cs framing.es framing.kept) (kept_rules file f.placed f.passes cs framing.es framing.kept framing.shaped 0) (omega (arith, long))
 
-  pub tell_held : (h : Kept) → h.cards.now ≡ cs → NamesFit file cs room (Ok h.names) → HeldAs file cards h
-  tell_held h same fit =
+  pub tell_held : (h : Kept) → h.cards.now ≡ cs → NamesFit file cs table (Ok h.names) out → h.names ≤ length out → HeldAs file cards h out
+  tell_held h same fit few =
       let (k12, k13, index) = found (Ok h.names) fit in
       let q = names_hold file f.placed f.passes cs framing.es framing.kept framing.shaped cards (drop n cards) f.lines (sym (take-append-drop n cards)) (let few = f.few in omega (arith, long)) f.rest_blank (throughout Keeps12 left k12) (throughout Keeps13 left k13) in
       let counted : n ≡ card_count q.dataset = sym long ∙ q.many in
-      record { dataset = q.dataset; holds = q.holds; cards_are = same ∙ ap (λ k. take k cards) counted; counted = ap length same ∙ q.many; placed = left; lines_are = q.lines_are; index = index }
+      record { dataset = q.dataset; holds = q.holds; cards_are = same ∙ ap (λ k. take k cards) counted; counted = ap length same ∙ q.many; placed = left; lines_are = q.lines_are; within = few; index = index }
 
   names_of : (d : Dataset) → Holds file cards d → Throughout Keeps12 (lines_of left) × Throughout Keeps13 (lines_of left)
   names_of d h =
       let same = lined_once file h.placed f.placed h.passes.lined f.passes.lined in
       holds_names file f.placed f.passes cs framing.es framing.kept framing.shaped d (subst (λ ps. FilesAll ps cs (entries d)) same (files_held file cards n d f.named h)) h.is
 
-  pub tell_found : (h : Kept) (r : Result (Bor (List Name)) NameFault) → h.cards.now ≡ cs → NamesFit file cs room r → Some h.names ≡ result_ok r → HeldAs file cards h
-  tell_found h (Ok names) same fit e = tell_held h same (subst (λ x. NamesFit file cs room (Ok x)) (sym (same_Some h.names names e)) fit)
-  tell_found h (Err x) same fit e = absurd (none-some h.names (sym e))
+  pub tell_found : (h : Kept) (r : Result ℕ NameFault) → h.cards.now ≡ cs → NamesFit file cs table r out → IfOk r (λ names. names ≤ length out) → Some h.names ≡ result_ok r → HeldAs file cards h out
+  tell_found h (Ok names) same fit few e =
+      let is = sym (same_Some h.names names e) in
+      tell_held h same (subst (λ x. NamesFit file cs table (Ok x) out) is fit) (subst (λ x. x ≤ length out) is few)
+  tell_found h (Err x) same fit few e = absurd (none-some h.names (sym e))
 
-  pub tell_none : (x : NameFault) → NamesFit file cs room (Err x) → (d : Dataset) → Holds file cards d → ⊥
+  pub tell_none : (x : NameFault) → NamesFit file cs table (Err x) out → (d : Dataset) → Holds file cards d → ⊥
   tell_none (Repeated k) fit d h =
       let (i, first, _) = found (Err (Repeated k)) fit in
       first.breaks ((names_of d h).0 i (let w = first.within in omega (arith, length-map left (λ q. q.line))))
@@ -163,6 +165,6 @@ module _ (file : List ℕ) (cards : List Card) (n room : ℕ) (f : Front file ca
       let (_, (i, first, _)) = found (Err (Lost k)) fit in
       first.breaks ((names_of d h).1 i (let w = first.within in omega (arith, length-map left (λ q. q.line))))
 
-  pub tell_lost : (r : Result (Bor (List Name)) NameFault) → NamesFit file cs room r → None ≡ result_ok r → (d : Dataset) → Holds file cards d → ⊥
+  pub tell_lost : (r : Result ℕ NameFault) → NamesFit file cs table r out → None ≡ result_ok r → (d : Dataset) → Holds file cards d → ⊥
   tell_lost (Ok names) fit e = absurd (none-some names e)
   tell_lost (Err x) fit e = tell_none x fit

@@ -7,7 +7,7 @@ use Rattle.model.specs.Files.{Placed, Passes}
 use Rattle.model.specs.Cards.{Blanks, Holds}
 use Rattle.model.specs.Refusals.{lines_of}
 use Rattle.model.specs.Removal.{card_count}
-use Rattle.naming.specs.Naming.{IndexOf}
+use Rattle.naming.specs.Naming.{Name, IndexOf}
 use Rattle.holding.specs.Standing.{NamedFront, OnLines, Fits}
 use Rattle.holding.specs.declared.telling.Kept.{Kept}
 
@@ -26,17 +26,19 @@ abbrev pub Fronts : List ℕ → List Card → Option (Bor (List Card)) → Type
 Fronts file cards None = (d : Dataset) → Holds file cards d → ⊥
 Fronts file cards (Some front) = (n : ℕ) × Front file cards n × (front.now ≡ take n cards)
 
--- the drawer holds this dataset by its first cards, as many as it has, and the names are the index of their identifiers
-pub record HeldAs (file : List ℕ) (cards : List Card) (h : Kept) : Type 0 where
+-- the drawer holds this dataset by its first cards, as many as it has, and the index of their identifiers stands at the front
+-- of the table
+pub record HeldAs (file : List ℕ) (cards : List Card) (h : Kept) (table : List Name) : Type 0 where
   pub dataset : Dataset
   pub holds : Holds file cards dataset
   pub cards_are : h.cards.now ≡ take (card_count dataset) cards
   pub counted : length h.cards.now ≡ card_count dataset
   pub placed : List Placed
   pub lines_are : lines_of placed ≡ lines dataset
-  pub index : IndexOf placed h.names.now
+  pub within : h.names ≤ length table
+  pub index : IndexOf placed (take h.names table)
 
 -- none where the drawer holds no dataset; the table has to be as long as a drawer may hold cards
-abbrev pub Tells : List ℕ → List Card → ℕ → Option Kept → Type 0
-Tells file cards room None = 65535 ≤ room → (d : Dataset) → Holds file cards d → ⊥
-Tells file cards room (Some h) = HeldAs file cards h
+abbrev pub Tells : List ℕ → List Card → ℕ → Option Kept → List Name → Type 0
+Tells file cards room None out = 65535 ≤ room → (d : Dataset) → Holds file cards d → ⊥
+Tells file cards room (Some h) out = HeldAs file cards h out

@@ -9,11 +9,11 @@ use lines::check;
 use model::{Card, MOST};
 use naming::{Named, check_names};
 
-// The cards of a drawer that name lines, and the index of their identifiers.
+// The cards of a drawer that name lines, and how much of the table's front is the index of their identifiers.
 #[derive(Clone, Copy, PartialEq, Eq, Debug)]
-pub struct Kept<'f, 'c, 'n> {
+pub struct Kept<'c> {
     pub cards: &'c [Card],
-    pub names: &'n [Named<'f>],
+    pub names: usize,
 }
 
 // The cards that name lines of the file, if they fit one another and the others are blank.
@@ -31,12 +31,8 @@ fn held_cards<'c>(file: &[u8], drawer: &'c [Card]) -> Option<&'c [Card]>
 
 // What a drawer holds of a file, for any cards whatever, if that is a dataset. The table has to be as long as the cards
 // that a drawer may hold.
-pub fn held<'f, 'c, 'n>(
-    file: &'f [u8],
-    drawer: &'c [Card],
-    table: &'n mut [Named<'f>],
-) -> Option<Kept<'f, 'c, 'n>>
-    ensures { Tells file.now drawer.now (length table.old) result }
+pub fn held<'f, 'c>(file: &'f [u8], drawer: &'c [Card], table: &mut [Named<'f>]) -> Option<Kept<'c>>
+    ensures { Tells file.now drawer.now (length table.old) result table.new }
 {
     let cards = held_cards(file, drawer)?;
     if cards.len() > table.len() {

@@ -1,5 +1,5 @@
 -- What the parts of a reading find, and so its answer. Assumes nothing.
-use Rattle.std.proofs.Common.{◌≡◌, Bor, ℕ, ◌+◌, ◌<◌, ◌≤◌, min, List, [], ◌++◌, length, get_or, take, Some, None, Ok, Err, Result, sym, refl, ap, ◌∙◌, subst, inl, inr, arith, length-take}
+use Rattle.std.proofs.Common.{◌≡◌, ℕ, ◌+◌, ◌<◌, ◌≤◌, min, List, [], ◌++◌, length, get_or, take, Some, None, Ok, Err, Result, sym, refl, ap, ◌∙◌, subst, inl, inr, arith, length-take}
 use lib.ListN.{length-map}
 use Rattle.std.proofs.ByRecursion.{All-get_or, All-weaker}
 use Rattle.std.proofs.lemmas.List.{get_or_past, get_or-map, take_all, take_at}
@@ -209,10 +209,10 @@ entered : (s : Entered) (file : List ℕ) (cards : List Card) (d : Dataset) → 
 entered s file cards d ef ec e = subst (λ x. Entering x s.cards.now s.names.now d) (sym ef) (subst (λ x. Entering file x s.names.now d) (sym ec) e)
 
 -- cards that break one of the identifiers
-pub names_refused : (m : Meaning) (file : List ℕ) (cards : List Card) (fault : NameFault) (r : ReadFault) → ((room : ℕ) (ps : List Placed) → CardsShow file cards ps → RulesKept 11 room ps → NamesFound room ps (Err fault)) → TellsNames file cards fault r → Judges m file cards (Err r)
-names_refused m file cards (name.Repeated k) r fit (p, is, at) = λ ps rooms passes are kept.
+pub names_refused : (m : Meaning) (file : List ℕ) (cards : List Card) (out : List Name) (fault : NameFault) (r : ReadFault) → ((room : ℕ) (ps : List Placed) → CardsShow file cards ps → RulesKept 11 room ps → NamesFound room ps (Err fault) out) → TellsNames file cards fault r → Judges m file cards (Err r)
+names_refused m file cards out (name.Repeated k) r fit (p, is, at) = λ ps rooms passes are kept.
     subst (λ f. Refuses m file rooms (read_fault f)) (sym is) (repeated file ps rooms passes cards are kept m k p (fit rooms ps (shows file ps rooms passes cards are kept) (ordered_kept file ps rooms passes)) at)
-names_refused m file cards (name.Lost k) r fit (p, is, at) = λ ps rooms passes are kept.
+names_refused m file cards out (name.Lost k) r fit (p, is, at) = λ ps rooms passes are kept.
     let n = fit rooms ps (shows file ps rooms passes cards are kept) (ordered_kept file ps rooms passes) in
     subst (λ f. Refuses m file rooms (read_fault f)) (sym is) (lost file ps rooms passes cards are kept m k p n.0 n.1 at)
 
@@ -227,15 +227,22 @@ judged m file cards s (Err f) ef ec fit j = λ ps rooms passes are kept.
     let d = (reads file ps rooms passes cards are kept s.names.now a b index).dataset in
     found file ps rooms passes cards are kept s.names.now a b index m s f ef ec (j d (entered s file cards d ef ec (entering file ps rooms passes cards are kept s.names.now a b index)) (few file ps rooms passes cards are kept s.names.now a b index))
 
--- what the rules of the identifiers answer, told or judged
-module _ (m : Meaning) (file : List ℕ) (cards : List Card) (few : length cards ≤ 65535) where
-  pub names_told : (r : Result (Bor (List Name)) NameFault) → NamesFit file cards 65535 r → (f : ReadFault) → MatchResult r (λ x. ⊥) (λ e. TellsNames file cards e f) → Judges m file cards (Err f)
-  names_told (Ok x) fit f e = elim e [ ]
-  names_told (Err e) fit f tells = names_refused m file cards e f (λ room ps s k. fit room ps s k few) tells
+-- `NamesFit` of a table with so many entries
+abbrev pub FitIn : List ℕ → List Card → ℕ → Result ℕ NameFault → List Name → Type 0
+FitIn file cards entries r out = (room : ℕ) (ps : List Placed) → CardsShow file cards ps → RulesKept 11 room ps → length cards ≤ entries → NamesFound room ps r out
 
-  pub names_judged : (r : Result (Bor (List Name)) NameFault) → NamesFit file cards 65535 r → (s : Entered) → MatchResult r (λ x. ◌≡◌ {A = Result (Bor (List Name)) ReadFault} (Ok s.names) (Ok x)) (λ e. ⊥) → s.file.now ≡ file → s.cards.now ≡ cards → (j : Result (Unit {0}) ReadFault) → JudgesNamed m s j → Judges m file cards j
-  names_judged (Ok x) fit s e ef ec j tells = judged m file cards s j ef ec (λ room ps shown k. subst (λ (y : Bor (List Name)). NamesFound room ps (Ok y)) (let z : x ≡ s.names = cc in z) (fit room ps shown k few)) tells
-  names_judged (Err f) fit s e ef ec j tells = elim e [ ]
+-- what the rules of the identifiers answer, told or judged
+module _ (m : Meaning) (file : List ℕ) (cards : List Card) (out : List Name) (few : length cards ≤ 65535) where
+  pub names_told : (r : Result ℕ NameFault) → FitIn file cards 65535 r out → (f : ReadFault) → MatchResult r (λ x. ⊥) (λ e. TellsNames file cards e f) → Judges m file cards (Err f)
+  names_told (Ok x) fit f e = elim e [ ]
+  names_told (Err e) fit f tells = names_refused m file cards out e f (λ room ps s k. fit room ps s k few) tells
+
+  pub names_judged : (r : Result ℕ NameFault) (n : ℕ) → FitIn file cards 65535 r out → MatchResult r (λ x. ◌≡◌ {A = Result ℕ ReadFault} (Ok n) (Ok x)) (λ e. ⊥) → (s : Entered) → s.file.now ≡ file → s.cards.now ≡ cards → s.names.now ≡ take n out → (j : Result (Unit {0}) ReadFault) → JudgesNamed m s j → Judges m file cards j
+  names_judged (Ok x) n fit e s ef ec en j tells = judged m file cards s j ef ec (λ room ps shown k.
+      let z : x ≡ n = cc in
+      let (a, b, index) = fit room ps shown k few in
+      (a, b, subst (IndexOf ps) (ap (λ i. take i out) z ∙ sym en) index)) tells
+  names_judged (Err f) n fit e s ef ec en j tells = elim e [ ]
 
 -- a drawer that was filled, or has too few cards
 module _ (file : List ℕ) (rooms : ℕ) (out : List Card) where

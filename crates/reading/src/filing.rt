@@ -58,9 +58,10 @@ fn judge_cards<B: Book>(file: &[u8], cards: &[Card], book: &B) -> Result<(), Rea
     ensures { length cards.now ≤ 65535 → Judges (B.meaning book.now) file.now cards.now result }
 {
     let mut table = [UNNAMED; MOST];
-    let names = check_names(file, cards, &mut table).map_err(|fault| told_of_names(
+    let count = check_names(file, cards, &mut table).map_err(|fault| told_of_names(
         file, cards, fault,
     ))?;
+    let names = &table[..count];
     judge_named(Entered { file, cards, names }, book)
 }
 

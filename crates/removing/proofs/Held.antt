@@ -7,6 +7,7 @@ use Rattle.model.specs.Files.{Lined}
 use Rattle.model.specs.Cards.{FilesAll, Holds}
 use Rattle.model.specs.Removal.{card_count}
 use Rattle.model.proofs.Drawers.{files_long, held_few}
+use Rattle.naming.specs.Naming.{Name}
 use Rattle.holding.specs.Holding.{HeldAs}
 use Rattle.holding.specs.declared.telling.Kept.{Kept}
 use Rattle.reading.specs.Entered.{Names}
@@ -18,8 +19,8 @@ use Rattle.removing.specs.Entering.{EnteredFrom}
 front_is : (file : List ℕ) (cards : List Card) (d : Dataset) (h : Holds file cards d) → take (card_count d) cards ≡ h.named
 front_is file cards d h = ap (take (card_count d)) h.are ∙ take_at h.named h.blanks (card_count d) (files_long h.placed h.named (entries d) h.files)
 
-pub entered : (file : List ℕ) (cards : List Card) (kept : Kept) (s : Entered) → HeldAs file cards kept → s.file.now ≡ file → s.cards.now ≡ kept.cards.now → s.names.now ≡ kept.names.now → EnteredFrom file cards s
-entered file cards kept s h same-file same-cards same-names =
+pub entered : (file : List ℕ) (cards : List Card) (kept : Kept) (table : List Name) (s : Entered) → HeldAs file cards kept table → s.file.now ≡ file → s.cards.now ≡ kept.cards.now → s.names.now ≡ take kept.names table → EnteredFrom file cards s
+entered file cards kept table s h same-file same-cards same-names =
     let d = h.dataset in
     let o = h.holds in
     let front : s.cards.now ≡ o.named = same-cards ∙ h.cards_are ∙ front_is file cards d o in
@@ -32,7 +33,7 @@ entered file cards kept s h same-file same-cards same-names =
           lined = subst (λ f. Lined f o.placed) (sym same-file) o.passes.lined;
           files = subst (λ cs. FilesAll o.placed cs (entries d)) (sym front) o.files;
           is = o.is;
-          names_are = subst (Names (entries d)) (sym same-names) (names_of h.placed d o.is h.lines_are kept.names.now h.index);
+          names_are = subst (Names (entries d)) (sym same-names) (names_of h.placed d o.is h.lines_are (take kept.names table) h.index);
         };
         few = held_few file cards d o;
       };

@@ -17,9 +17,10 @@ pub fn enter<'f, 'c, 'n>(
     ensures { 65535 ≤ length table.old → Enters file.now drawer.now result }
 {
     let kept = held(file, drawer, table)?;
+    let index = &table[..];
     Some(Entered {
         file,
         cards: kept.cards,
-        names: kept.names,
+        names: &index[..kept.names],
     })
 }
