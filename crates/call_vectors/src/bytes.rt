@@ -28,7 +28,7 @@ pub fn unhexed(heap: Global, hex: &str) -> Result<Vec<u8>, AllocError> {
 // Bytes in hexadecimal; a hyphen where there are none.
 pub fn hexed(heap: Global, bytes: &[u8]) -> Result<String, AllocError> {
     if bytes.is_empty() {
-        String::from_str_in(heap, "-")
+        String::from_str(heap, "-")
     } else {
         hex::encode(heap, bytes)
     }
