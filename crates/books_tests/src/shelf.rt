@@ -1,30 +1,25 @@
 use books::{Book, NoSuchBook, Shelf};
 use model::{Context, Kind};
 
-// The book of a name asks what it should, and prints as that name.
-fn names(
-    rt: &HostRuntime,
-    name: &str,
-    shelf: Shelf,
-    types: usize,
-    under_top: Option<u16>,
-) {
-    assert_eq!(rt; name.parse::<Shelf>(), Ok(shelf));
-    assert_eq!(rt; shelf.name(), name);
-    let printed = shelf.to_string(rt.alloc());
-    assert!(rt; printed.is_ok_and(|printed| printed.as_str() == name));
-    assert_eq!(rt; shelf.types(), types);
-    assert_eq!(rt;
-        shelf.row(Context::Top, b"_UID").map(|row| row.typed),
-        under_top
-    );
-}
-
+// The book of each name asks what it should, and prints as that name.
 #[test]
 fn each_book_has_a_name(rt: HostRuntime) {
-    names(&rt, "home", Shelf::Home, 35, None);
-    names(&rt, "plain", Shelf::Plain, 1, Some(0));
-    names(&rt, "open", Shelf::Open, 36, Some(35));
+    let named = [
+        ("home", Shelf::Home, 35, None),
+        ("plain", Shelf::Plain, 1, Some(0)),
+        ("open", Shelf::Open, 36, Some(35)),
+    ];
+    for (name, shelf, types, under_top) in named {
+        assert_eq!(rt; name.parse::<Shelf>(), Ok(shelf));
+        assert_eq!(rt; shelf.name(), name);
+        let printed = shelf.to_string(rt.alloc());
+        assert!(rt; printed.is_ok_and(|printed| printed.as_str() == name));
+        assert_eq!(rt; shelf.types(), types);
+        assert_eq!(rt;
+            shelf.row(Context::Top, b"_UID").map(|row| row.typed),
+            under_top
+        );
+    }
     assert_eq!(rt; Shelf::Open.kind(35), Kind::Anything);
     assert_eq!(rt; Shelf::Home.needs(Context::Under(28)), 2);
     assert_eq!(rt; Shelf::Home.need(Context::Under(28), 1), Some(30));
