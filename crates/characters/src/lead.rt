@@ -26,7 +26,8 @@ const LENGTHS: [u8; 256] = [
     0, 0, 0, 0, 0, 0, 0, 0, 0, 0,
 ];
 
-// How many bytes a character has that begins with `lead`, or 0 where none does, as in the table.
+// How many bytes a character has that begins with `lead`, or 0 where none does: an entry of the table as it stands. What
+// begins at a place of a file is an Option.
 pub fn announced(lead: u8) -> u8
     ensures { result ≡ lead_length lead }
 {

@@ -43,48 +43,57 @@ fn goes_second(a: u8, b: u8) -> bool
     b >= least && b < past
 }
 
-// A place in the file is two parameters here and below: a struct of both would be made anew at every step of the loop.
-// How many bytes the character at `i` has, or none where no character begins there.
-fn width(file: &[u8], i: usize) -> Option<usize>
-    requires { (length file.now ≤ 16777216) × (i < length file.now) }
-    ensures { WidthAt file.now i result }
-{
-    let lead = file[i];
-    let width = announced(lead);
-    let whole = match width {
-        1 => true,
-        2 => goes_on(byte(file, i + 1)),
-        3 => goes_second(lead, byte(file, i + 1)) && goes_on(byte(file, i + 2)),
-        4 => goes_second(lead, byte(file, i + 1))
-            && goes_on(byte(file, i + 2))
-            && goes_on(byte(file, i + 3)),
-        _ => false,
-    };
-    whole.then_some(width as usize)
+// A place in a file, where a character may begin.
+#[derive(Clone, Copy)]
+struct At<'a> {
+    file: &'a [u8],
+    i: usize,
+    ghost short: { length file.now ≤ 16777216 },
+    ghost within: { i < length file.now },
 }
 
-// Whether the character that begins at `i` is banned: the controls but tab, LF and CR; DEL and the second controls, which
-// begin with C2; and the last two codes of three bytes.
-fn banned(file: &[u8], i: usize) -> bool
-    requires { (length file.now ≤ 16777216) × (i < length file.now) }
-    ensures { result ≡ banned_at file.now i }
-{
-    match file[i] {
-        b'\t' | b'\n' | b'\r' => false,
-        0x00..=0x1F | 0x7F => true,
-        0xC2 => byte(file, i + 1) < 0xA0,
-        0xEF => byte(file, i + 1) == 0xBF && byte(file, i + 2) > 0xBD,
-        _ => false,
+impl At<'_> {
+    // How many bytes the character here has, or none where no character begins.
+    fn width(self) -> Option<usize>
+        ensures { WidthAt self.entry.file.now self.entry.i result }
+    {
+        let At { file, i } = self;
+        let lead = file[i];
+        let width = announced(lead);
+        let whole = match width {
+            1 => true,
+            2 => goes_on(byte(file, i + 1)),
+            3 => goes_second(lead, byte(file, i + 1)) && goes_on(byte(file, i + 2)),
+            4 => goes_second(lead, byte(file, i + 1))
+                && goes_on(byte(file, i + 2))
+                && goes_on(byte(file, i + 3)),
+            _ => false,
+        };
+        whole.then_some(width as usize)
     }
-}
 
-// Whether a line ends with the byte at `i`: CR LF ends it with the LF.
-fn ends_line(file: &[u8], i: usize) -> bool
-    requires { (length file.now ≤ 16777216) × (i < length file.now) }
-    ensures { result ≡ is_end_at file.now i }
-{
-    let a = file[i];
-    a == b'\n' || (a == b'\r' && byte(file, i + 1) != b'\n')
+    // Whether the character here is banned: the controls but tab, LF and CR; DEL and the second controls, which begin with C2;
+    // and the last two codes of three bytes.
+    fn is_banned(self) -> bool
+        ensures { result ≡ banned_at self.entry.file.now self.entry.i }
+    {
+        let At { file, i } = self;
+        match file[i] {
+            b'\t' | b'\n' | b'\r' => false,
+            0x00..=0x1F | 0x7F => true,
+            0xC2 => byte(file, i + 1) < 0xA0,
+            0xEF => byte(file, i + 1) == 0xBF && byte(file, i + 2) > 0xBD,
+            _ => false,
+        }
+    }
+
+    // Whether a line ends with the byte here: CR LF ends it with the LF.
+    fn ends_line(self) -> bool
+        ensures { result ≡ is_end_at self.entry.file.now self.entry.i }
+    {
+        let At { file, i } = self;
+        file[i] == b'\n' || (file[i] == b'\r' && byte(file, i + 1) != b'\n')
+    }
 }
 
 // Whether a byte is a character by itself that neither is banned nor ends a line, as most are.
@@ -115,11 +124,12 @@ pub fn check(file: &[u8]) -> Result<(), ByteFault>
             line: ends + 1,
             byte: i as u32,
         };
-        let Some(width) = width(file, i) else {
+        let at = At { file, i };
+        let Some(width) = at.width() else {
             return Err(ByteFault::Malformed(here));
         };
-        found = found.or(banned(file, i).then_some(here));
-        if ends_line(file, i) {
+        found = found.or(at.is_banned().then_some(here));
+        if at.ends_line() {
             ends += 1;
         }
         i += width;

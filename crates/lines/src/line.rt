@@ -21,8 +21,8 @@ pub const CONC: &[u8] = b"CONC";
 // The pointer to no record.
 pub const VOID: &[u8] = b"@VOID@";
 
-// What stands behind a line's tag; nothing is one case of the four that a rule asks for. The parts are of the file: a pointer has both of its @, and a text that begins with
-// a doubled @ shows the second of them on.
+// What stands behind a line's tag; nothing is one of the four cases, and no Option, since a rule asks which of them it is. The
+// parts are of the file: a pointer has both of its @, and a text that begins with a doubled @ shows the second of them on.
 #[derive(Clone, Copy)]
 pub enum Payload<'a> {
     None,

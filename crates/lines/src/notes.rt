@@ -52,9 +52,9 @@ pub struct Scan {
     pub deepest: u8,
     pub last: Last,
     pub notes: Notes,
-    // whether the last line is a bare trailer
+    // whether the last line is a bare trailer, and where it is, trailer or not: no Option, since the place is told of a line
+    // that is none
     pub closed: bool,
-    // where it is, trailer or not
     pub here: Place,
 }
 

@@ -25,7 +25,6 @@ pub fn run<P: Fn(u8) -> bool>(bytes: &[u8], passes: P) -> usize
 fn capped(digits: &[u8]) -> u8
     ensures { result ≡ min 100 (number_of digits.now) }
 {
-    // a loop, since each turn stands on the bound of the one before
     let mut n: u16 = 0;
     for d in digits {
         n = (n * 10 + (*d as u16).saturating_sub(b'0' as u16)).min(100);

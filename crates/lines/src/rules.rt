@@ -25,7 +25,7 @@ fn scan(file: &[u8]) -> Result<Counts, LineFault>
 {
     let mut cursor = Cursor::new(file);
     let mut scan = Scan::new();
-    // no `for`: the end and bytes that are no line are told apart
+    // no `for`, since the end and bytes that are no line are told apart; a `match`, since of the latter the place is told
     loop {
         match cursor.step() {
             Ok(Some(found)) => scan = scan.after(look(found.line), found.byte as u32),

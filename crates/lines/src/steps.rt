@@ -83,9 +83,7 @@ impl<'a> Cursor<'a> {
             return Err(NoLine);
         }
         let bytes = &self.file[self.at..end];
-        let Some(line) = parse(bytes) else {
-            return Err(NoLine);
-        };
+        let line = parse(bytes).ok_or(NoLine)?;
         let found = Found {
             number: self.lines + 1,
             byte: self.at,
@@ -107,9 +105,6 @@ impl<'a> Iterator for Cursor<'a> {
     ghost remaining = { λ s. at_most (length s.file.now - s.at) };
 
     fn next(&mut self) -> Option<Found<'a>> {
-        match self.step() {
-            Ok(found) => found,
-            Err(NoLine) => None,
-        }
+        self.step().ok().flatten()
     }
 }

@@ -44,8 +44,8 @@ loop-i-preserved c =
       | then-ends_line w ↦ w.ends-is ∙ ap (λ b. ends + cond b 1 0) (sym w.if-ends_line.true)
       | else-ends_line w ↦ w.ends-is ∙ (let z : ends ≡ ends + 0 = omega arith in z) ∙ ap (λ b. ends + cond b 1 0) (sym w.if-ends_line.false)
     ] in
-    let noted = c.or-found.ensures ∙ ap (option_or c.loop-i.found) c.then_some.ensures ∙ first_noted c.loop-i.found c.banned.result here in
-    checked_step c.args.file.now c.loop-i.i ends c.in-Some.width c.if-ends_line.ends c.loop-i.found c.or-found.result c.banned.result ended c.loop-i.invariant c.loop-i-test.true (λ z. omega arith) c.in-Some.ensures.0 c.banned.ensures c.ends_line.ensures more noted
+    let noted = c.or-found.ensures ∙ ap (option_or c.loop-i.found) c.then_some.ensures ∙ first_noted c.loop-i.found c.is_banned.result here in
+    checked_step c.args.file.now c.loop-i.i ends c.in-Some.width c.if-ends_line.ends c.loop-i.found c.or-found.result c.is_banned.result ended c.loop-i.invariant c.loop-i-test.true (λ z. omega arith) c.in-Some.ensures.0 c.is_banned.ensures c.ends_line.ensures more noted
 
 pub returns-in-Some-found : goal.returns-in-Some-found
 returns-in-Some-found c m cards = checked_banned m c.args.file.now cards c.loop-i.i c.loop-i.ends c.in-Some-found.place (omega arith) (subst (Checked c.args.file.now c.loop-i.i c.loop-i.ends) c.in-Some-found.is c.loop-i.invariant) c.loop-i-test.false
