@@ -66,11 +66,7 @@ pub fn read_marked(bytes: &[u8]) -> Option<(&[u8], &[u8])>
         return None;
     };
     let n = run(behind, is_tag_character);
-    if n > 0 && n < behind.len() && behind[n] == b'@' {
-        Some(bytes.split_at(n + 2))
-    } else {
-        None
-    }
+    (n > 0 && behind.get(n) == Some(&b'@')).then(|| bytes.split_at(n + 2))
 }
 
 // Whether characters of a tag are one: the first is a letter, or _ with one more behind it.
