@@ -1,8 +1,7 @@
 // The checks for a program in another language, so that their speed can be compared with a plain one. An answer is 0 where
-// the file is accepted, and else the number of the refusal, the line and the byte, in this order, in 8, 28 and 28 bits.
+// the file is accepted, and else the number of the refusal, the line and the byte, in this order, in 8, 28 and 28 bits. These
+// are numbers and no enums, here and below, as the C interface needs.
 #![tactic(auto)]
-
-// Numbers and no enums, here and below: the C interface needs them.
 
 use books::Home;
 use model::{Card, Fault, MOST, State};
@@ -83,10 +82,7 @@ fn file_cards(cards: &mut [Card], starts: &[u32]) {
 pub extern "C" fn intake_open(file: &[u8], starts: &[u32]) -> u64 {
     let mut cards = [Card::BLANK; MOST];
     file_cards(&mut cards, starts);
-    match open(file, &cards) {
-        Ok(view) => view.count() as u64,
-        Err(_) => 0,
-    }
+    open(file, &cards).map_or(0, |view| view.count() as u64)
 }
 
 // Opens such a view and writes it, and answers how many bytes that is; 0 where it is refused.
@@ -94,11 +90,7 @@ pub extern "C" fn intake_open(file: &[u8], starts: &[u32]) -> u64 {
 pub extern "C" fn intake_write(file: &[u8], starts: &[u32], buffer: &mut [u8]) -> u64 {
     let mut cards = [Card::BLANK; MOST];
     file_cards(&mut cards, starts);
-    match open(file, &cards) {
-        Ok(view) => match view.write(buffer) {
-            Ok(size) => size as u64,
-            Err(_) => 0,
-        },
-        Err(_) => 0,
-    }
+    open(file, &cards)
+        .and_then(|view| view.write(buffer))
+        .map_or(0, |size| size as u64)
 }

@@ -4,7 +4,8 @@ ghost use Rattle.model.specs.Books.{Meaning, Lawful};
 use model::{Context, Kind, Row};
 
 // A book of rules. A context is the top of a tree or a type of structure; types are numbered from 0. The meaning of a
-// book is what it answers to these six questions, and asking changes nothing. Each takes what it asks about.
+// book is what it answers to these six questions, and asking changes nothing. What a question asks about are its parameters,
+// since each asks about something else.
 pub trait Book {
     ghost meaning: { Self → Meaning };
 
@@ -12,7 +13,8 @@ pub trait Book {
     fn types(&self) -> usize
         ensures { result ≡ (meaning self.now).types };
 
-    // What the book says of a tag in a context: none, or its type, whether it is required there, and whether many may stand there.
+    // What the book says of a tag in a context: none, or its type, whether one is required there, and whether many may stand
+    // there.
     fn row(&self, context: Context, tag: &[u8]) -> Option<Row>
         ensures { result ≡ (meaning self.now).row context tag.now };
 

@@ -3,8 +3,7 @@ ghost use Rattle.model.specs.Books.{kind_number, number_of_kind};
 
 use model::Kind;
 
-// The number of a kind, for those who exchange books.
-// A match, since the kinds that hold a number of their own cast to none.
+// The number of a kind, for those who exchange books. A match, since a kind that holds a number of its own casts to none.
 pub fn kind_number(kind: Kind) -> u8
     ensures { result ≡ kind_number kind }
 {

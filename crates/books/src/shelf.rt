@@ -76,7 +76,7 @@ impl FromStr for Shelf {
     }
 }
 
-// A match in each question, since no function may hand out a dyn book.
+// A match in each question: no function may hand out a dyn book, and the check knows no bound on a closure that takes one.
 impl Book for Shelf {
     ghost meaning = { meaning_of };
 

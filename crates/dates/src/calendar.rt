@@ -6,8 +6,8 @@ pub mod gregorian;
 pub mod hebrew;
 pub mod julian;
 
-// A calendar that a date may be written in. A constant of bytes has no value in a contract, so a function answers the name, and
-// one the months.
+// A calendar that a date may be written in. It is a rule of this project that a calendar's data are its constants; a constant of
+// bytes has no value in a contract, so beside the name stands a function that answers it, and beside the months another.
 pub trait Calendar {
     // The word before a date.
     const NAME: &'static [u8];

@@ -62,7 +62,7 @@ fn is_named<C: Calendar>(word: &[u8]) -> bool
     word == C::full_name()
 }
 
-// Behind a date. It is of the Gregorian calendar where it names none.
+// Behind a date. It is of the Gregorian calendar where it names none. An arm for each calendar, since types have no loop.
 fn after_date(words: Words<'_>) -> Option<Words<'_>>
     ensures { left_of result ≡ after_date (words_of words.entry) }
 {

@@ -12,7 +12,7 @@ use dates::{is_date_value, is_exact, is_period};
 use model::Kind;
 use pieces::{are_texts, are_words, is_flag, is_integer, is_person, is_version};
 
-// What a payload holds, as far as kinds ask.
+// What a payload holds, as far as kinds ask. Nothing is one of five cases, and no Option, since a kind asks which it is.
 #[derive(Clone, Copy)]
 pub enum Content<'a> {
     // no payload

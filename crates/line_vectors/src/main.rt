@@ -9,7 +9,7 @@ use std::alloc::{AllocError, AllocFailed, Global};
 use std::io;
 use std::io::{BufRead, BufReader};
 
-// Where in an escape the reader stands.
+// Where in an escape the reader stands; outside of one is a place as the others are.
 #[derive(Clone, Copy)]
 enum Escape {
     None,
@@ -18,7 +18,7 @@ enum Escape {
     Half(u8),
 }
 
-// Why the cases are not all answered.
+// Why the cases are not all answered. call_vectors has the same, since two programs share no crate of theirs.
 #[derive(Debug, Drop)]
 enum Trouble {
     Memory,
@@ -43,6 +43,7 @@ impl From<io::Error> for Trouble {
     }
 }
 
+// A digit, and 0 for any other character, so that every case has a file.
 fn digit(b: u8) -> u8
     ensures { result ≤ 15 }
 {

@@ -86,7 +86,8 @@ impl Place {
     pub const NOWHERE: Place = Place { line: 0, byte: 0 };
 }
 
-// What a refusal tells: its number, a place in the file, `NOWHERE` where it has none, and the type that is missing.
+// What a refusal tells: its number, a place in the file, `NOWHERE` where it has none, and the type that is missing. The place
+// is two numbers here, since the definitions of the refusals have them so.
 #[derive(Clone, Copy, PartialEq, Eq, Debug)]
 pub struct Fault {
     pub number: u8,

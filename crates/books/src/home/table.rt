@@ -36,7 +36,7 @@ impl Entry {
     }
 }
 
-// The types.
+// The types. Numbers and no enum, since a book numbers its types for whoever asks it.
 
 pub const HEADER: u16 = 0;
 
