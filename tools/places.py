@@ -48,13 +48,13 @@ def shape(body):
     return re.sub(r"[A-Za-z_]\w*|b?'[^']*'|\d+|b?\"[^\"]*\"", lambda m: seen.setdefault(m.group(0), f'#{len(seen)}') if m.group(0) not in ('match', 'if', 'else', 'for', 'while', 'loop', 'return', 'let', 'mut', 'true', 'false', 'Some', 'None', 'Ok', 'Err', 'self', 'in') else m.group(0), body)
 groups = collections.defaultdict(list)
 for f, n, p, h, b in functions:
-    if len(b) > 24 and 'test' not in f: groups[shape(b)].append(f'{f}::{n}')
+    if len(b) > 16 and 'test' not in f: groups[shape(b)].append(f'{f}::{n}')
 show(2, 'groups of functions whose bodies differ only in names and constants', [('; '.join(v),) for v in groups.values() if len(v) > 1])
 types = collections.defaultdict(list)
 for n, i, l in lines:
     m = re.match(r'\s*(?:pub )?(?:struct|enum|const) (\w+)', l)
     if m: types[m.group(1)].append(n)
-show(2, 'types and constants declared twice under one name', [(k, *v) for k, v in types.items() if len(v) > 1 and k not in ('NAME', 'BCE', 'MONTHS')])
+show(2, 'types and constants declared twice under one name', [(k, *v) for k, v in types.items() if len(v) > 1])
 # 3
 show(3, 'loops over a counted index', by_line(r'\bwhile \w+ < |\bfor \w+ in [^{]*\.\.[^{]*\{'))
 show(3, 'other loops', by_line(r'^\s*(while|loop|for)\b', r'\bwhile \w+ < |\bfor \w+ in [^{]*\.\.[^{]*\{'))
@@ -62,6 +62,8 @@ show(3, 'counts kept by hand', by_line(r'\w+ (\+|-)= (1|width);'))
 # 4
 show(4, 'functions that only compare', [(f, n) for f, n, p, h, b in functions if re.fullmatch(r'\{ \*?[\w.]+ == \*?[\w."()]+ \}', b)])
 show(4, 'a match that only turns one Option or Result into another', by_line(r'^\s*(Some\((\w+)\) => Some\(\2\)|None => None|Err\(_\) => None|Err\((\w+)\) => (return )?Err\((?!\3\.)|Ok\((\w+)\) => (Ok|Some)\()'))
+show(4, 'two-armed matches, ifs and let-elses that answer a default or change an Option or Result', [(f, n) for f, n, p, h, b in functions
+    if re.search(r'match [^{}]* \{ (Some|Ok)\([^()]*\) => [^{}]*?, (None|Err\(_\)) => [^{}]*?,? \}|match [^{}]* \{ None => [^{}]*?, Some\([^()]*\) => [^{}]*?,? \}|\{ (Some|Ok)\([^{}]*\) \} else \{ (None|Err\([^{}]*\)) \}|else \{ return (Err\(\w+\)|false|0|at); \}', b)])
 show(4, 'functions from a name to a value or back', [(f, n) for f, n, p, h, b in functions if re.search(r'_named$|^name$|_number$|^state_of$|^sentence$', n)])
 # 5
 groups = collections.defaultdict(set)
@@ -76,6 +78,11 @@ for f, n, p, h, b in functions:
         for part in clause.split(' → ')[:-1]:
             if not re.match(r'^\(', part): groups[(crate(f), part)].add(f'{f}::{n}')
 show(5, 'premises that stand in the contracts of three or more functions of a crate', [(*k, len(v)) for k, v in groups.items() if len(v) > 2])
+groups = collections.defaultdict(set)
+for f, n, p, h, b in functions:
+    for clause in re.findall(r'requires \w* ?\{ (.*?) \}', re.sub(r'\s+', ' ', h)):
+        for part in clause.split(' × '): groups[(crate(f), part.strip('() '))].add(f'{f}::{n}')
+show(5, 'parts of a requires that three or more functions of a crate share', [(*k, len(v)) for k, v in groups.items() if len(v) > 2])
 # 6
 show(6, 'a buffer or table with a count or a place beside it', [(f, n) for f, n, p, h, b in functions if re.search(r'(table|names|buffer|drawer): &mut', p) and (re.search(r'(at|count): usize', p) or re.search(r'-> (usize|Result<usize)', h))])
 show(6, 'ends of slices worked out from a count', by_line(r'\.min\((\w+\.)*len\(\)\)'))
