@@ -1,4 +1,5 @@
-// The calls of a view, each with a view that is opened for it. Where that is refused, the refusal is the answer.
+// The calls of a view, each with a view that is opened for it. Where that is refused, the refusal is the answer. Each is a
+// function of its own, since a closure for what is asked of the view would be no shorter.
 ghost use Rattle.model.specs.Books.{Meaning};
 ghost use Rattle.model.specs.declared.Call.{Call};
 ghost use Rattle.model.specs.Calls.{Performs};
@@ -7,8 +8,6 @@ ghost use Rattle.calls.specs.Answers.{event, DoesQuietly};
 use crate::answer::{Answer, Denial};
 use model::{Call, Card};
 use viewing::open;
-
-// Each is a function of its own, since a closure for what is asked of the view would be no shorter.
 
 // Whether a view can be opened.
 pub fn open_call<'f>(file: &'f [u8], drawer: &[Card]) -> Result<Answer<'f>, Denial>

@@ -18,9 +18,8 @@ pub fn blank_from(drawer: &mut [Card], from: usize)
     drawer[from..].fill(Card::BLANK);
 }
 
-// The count stays beside the drawer, which is lent and keeps its length: no heap in the eight calls.
-
-// One line more: its card is put at `count`, unless it continues another. None if no card is left for it.
+// One line more: its card is put at `count`, unless it continues another. None if no card is left for it. The count stays, and
+// no iterator of the free cards takes its place: it is the answer of a filling, and the cards behind it are made blank.
 fn put(drawer: &mut [Card], count: usize, found: Found<'_>) -> Option<usize>
     requires { found.byte < 2 ^ 32 }
     ensures { Puts found.entry count drawer.old result drawer.new }
@@ -66,6 +65,7 @@ pub fn fill(file: &[u8], drawer: &mut [Card]) -> Result<usize, Place>
     ensures { Fills file.now (length drawer.old) result drawer.new }
 {
     if file.len() > LIMIT {
+        // nothing is said of a longer file
         blank_from(drawer, 0);
         return Ok(0);
     }

@@ -9,7 +9,8 @@ use lines::check;
 use model::{Card, MOST};
 use naming::{Named, check_names};
 
-// The cards of a drawer that name lines, and how much of the table's front is the index of their identifiers.
+// The cards of a drawer that name lines, and how much of the front of the table that the caller lent is the index of their
+// identifiers: a count, for the reason at `check_names`.
 #[derive(Clone, Copy, PartialEq, Eq, Debug)]
 pub struct Kept<'c> {
     pub cards: &'c [Card],

@@ -25,6 +25,8 @@ pub struct Cards<'a, B, E> {
     pub ghost small: { AllSmall marks.now },
 }
 
+// Each rule takes an index, which `check_each` hands out, and asks of it itself that it is of a card: a rule looks at the
+// cards beside it too, so a struct of an index and its bound would be made at each step and be no plainer.
 impl<B: Book, E: Entries> Cards<'_, B, E> {
     // Whether the payload is of its kind.
     pub fn is_taken(&self, i: usize) -> bool

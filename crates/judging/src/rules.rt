@@ -25,7 +25,8 @@ impl<B: Book, E: Entries> Cards<'_, B, E> {
     }
 }
 
-// Every card is marked before the other rules are asked.
+// Every card is marked before the other rules are asked. The book and the entries are parameters only until `Cards` holds them
+// with the marks; that the entries can be judged stays a premise, since `shows` is a relation.
 fn judge_with<B: Book, E: Entries>(book: &B, entries: &E, marks: &mut [Mark]) -> Result<(), Finding>
     ensures { (b : List Entry) → E.shows entries.now b → Judgeable b → length b ≡ length marks.old → Judged (B.meaning book.now) b (result_err result) }
 {
@@ -41,11 +42,13 @@ fn judge_with<B: Book, E: Entries>(book: &B, entries: &E, marks: &mut [Mark]) ->
     cards.check()
 }
 
-// The lowest rule of the book that a card breaks, and the first card that breaks it; none where every card keeps all.
-pub fn judge<B: Book, E: Entries>(book: &B, entries: &E) -> Option<Finding>
-    ensures { (b : List Entry) → E.shows entries.now b → Judgeable b → Judged (B.meaning book.now) b result }
+// Whether every card keeps every rule of the book; if not, the lowest rule that is broken is told, and the first card that
+// breaks it.
+pub fn judge<B: Book, E: Entries>(book: &B, entries: &E) -> Result<(), Finding>
+    ensures { (b : List Entry) → E.shows entries.now b → Judgeable b → Judged (B.meaning book.now) b (result_err result) }
 {
+    // as many marks as a drawer may have cards, of which a part is used: no heap in the eight calls
     let mut marks = [Mark::BLANK; MOST];
     let count = entries.count().min(MOST);
-    judge_with(book, entries, &mut marks[0..count]).err()
+    judge_with(book, entries, &mut marks[0..count])
 }

@@ -2,8 +2,8 @@ ghost use Rattle.std.specs.Prelude.{◌≡◌, ℕ, ◌<◌, ◌≤◌, false, �
 ghost use Rattle.model.specs.Positions.{Turns};
 ghost use Rattle.judging.specs.Sets.{has_type, bit, Clear};
 
-// A set of types below 1,024, with a bit for each. A type of a book is below 1,000 by the book's law, so no struct holds the
-// bound: it is asked where the bits are read.
+// A set of types below 1,024, with a bit for each. The bounds of types and levels are asked where the bits are read: a row and
+// a mark have more than one number, so a struct for a number and its bound would be made at each question and be no plainer.
 #[derive(Clone, Copy)]
 pub struct Types {
     words: [u64; 16],

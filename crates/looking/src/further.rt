@@ -19,14 +19,10 @@ pub fn further_at(file: &[u8], byte: usize, number: usize) -> Option<&[u8]>
     ensures { FurtherAt file.now byte number result }
 {
     let mut cursor = cursor_at(file, byte)?;
-    let _own = cursor.next()?;
-    for (passed, found) in cursor.enumerate() {
-        if !is_continuation(found.line) {
-            return None;
-        }
-        if passed == number {
-            return Some(text_in(found.line.payload));
-        }
-    }
-    None
+    // past the line at the byte
+    cursor.next()?;
+    let found = cursor
+        .take_while(|found| is_continuation(found.line))
+        .nth(number)?;
+    Some(text_in(found.line.payload))
 }

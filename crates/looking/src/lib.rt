@@ -1,5 +1,5 @@
-// What the line that a card stands for shows. The file and the card are handed over as they are, since a caller asks one
-// question of each card.
+// What the line that a card stands for shows. Each function is public and takes what it asks about: a struct of a file and a
+// card would be made for each question and be no plainer.
 #![tactic(auto)]
 
 mod further;

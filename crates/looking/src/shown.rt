@@ -1,4 +1,5 @@
-// The line that a card stands for.
+// The line that a card stands for. Where no line begins at its byte, a level of 0, an empty tag, no content and the place
+// nowhere are made up: nothing is said of them there, and a public function that could not fail still cannot.
 ghost use Rattle.std.specs.Prelude.{◌≡◌, ℕ, Decides};
 ghost use Rattle.model.specs.Datasets.{CONT as continuation};
 ghost use Rattle.model.specs.Refusals.{Short};
@@ -75,7 +76,7 @@ pub fn place_at(file: &[u8], byte: usize) -> Place
     place_in(file, byte)
 }
 
-// The level of a card's line, counted up to 100. Of a card that has none nothing is said, so 0 need not be an Option.
+// The level of a card's line, counted up to 100.
 pub fn level_of(file: &[u8], card: Card) -> u8
     ensures { LevelOf file.now card result }
 {
@@ -120,6 +121,7 @@ fn filed_content(file: &[u8], byte: usize) -> Content<'_>
     let Some(mut cursor) = cursor_at(file, byte) else {
         return Content::Nothing;
     };
+    // a match: with map_or what the closure says of the cursor that it moves was not proved
     match cursor.next() {
         Some(own) => content_behind(own.line.payload, &mut cursor),
         None => Content::Nothing,

@@ -110,8 +110,8 @@ fn lost(file: &[u8], cards: &[Card], names: &[Named<'_>]) -> Option<usize>
 }
 
 // Whether the identifiers of the cards are apart and their pointers name them. Then the front of the table is the index of
-// them, and the answer is how much of it. The table has to be as long as there are cards. The count, since no clause could say
-// what the table holds after the call if a part of it were lent on.
+// them, and the answer is how much of it. The table has to be as long as there are cards. A count and no slice of the
+// table: of a table of which a part is lent on no clause could say what it holds after the call.
 pub fn check_names<'a>(
     file: &'a [u8],
     cards: &[Card],
@@ -120,7 +120,7 @@ pub fn check_names<'a>(
     ensures names { NamesFit file.now cards.now table.old result table.new }
     ensures within { IfOk result (λ n. n ≤ length table.new) }
 {
-    // of cards for which there is no room, those before them
+    // no clause speaks of cards for which the table has no room, so they are passed over
     let cards = &cards[..cards.len().min(table.len())];
     let count = index(file, cards, table);
     let names = &table[..count];

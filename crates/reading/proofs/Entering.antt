@@ -6,7 +6,7 @@ use Rattle.std.proofs.lemmas.Bool.{cases_lt}
 use Rattle.model.proofs.Options.{never}
 use Rattle.model.specs.declared.Card.{Card}
 use Rattle.model.specs.Datasets.{none, text, pointer, Dataset, Entry, entries, entries_of, tops, entry, TRLR, identifiers, GoodPayload}
-use Rattle.model.specs.Cards.{Files, FilesAll}
+use Rattle.model.specs.Cards.{blank, Files, FilesAll}
 use Rattle.model.specs.Edits.{no_entry}
 use Rattle.model.specs.Files.{Placed}
 use Rattle.model.specs.Tables.{plain}
@@ -40,9 +40,6 @@ module _ (file : List ℕ) (cards : List Card) (names : List Name) (b : List Ent
   counted = let x = all_long in let y = body_long in omega arith
 
   module _ (i : ℕ) (h : i < length b) where
-    pub card_there : i < length cards
-    card_there = let x = all_long in let y = body_long in omega arith
-
     entry_is : get_or (entries d) i no_entry ≡ get_or b i no_entry
     entry_is = let y = body_long in sym (ap (λ es. get_or es i no_entry) s.2 ∙ body_at (entries d) i (omega arith))
 
@@ -50,8 +47,8 @@ module _ (file : List ℕ) (cards : List Card) (names : List Name) (b : List Ent
     filed : (c : Card) → Files s.1.placed (get_or cards i c) (get_or b i no_entry)
     filed c = let y = body_long in subst (Files s.1.placed (get_or cards i c)) entry_is (files_at s.1.placed cards (entries d) s.1.files i c no_entry (omega arith))
 
-    pub filed_by : (c : Card) → c ≡ get_or cards i c → Files s.1.placed c (get_or b i no_entry)
-    filed_by c e = subst (λ x. Files s.1.placed x (get_or b i no_entry)) (sym e) (filed c)
+    pub filed_by : (c : Card) → c ≡ get_or cards i blank → Files s.1.placed c (get_or b i no_entry)
+    filed_by c e = subst (λ x. Files s.1.placed x (get_or b i no_entry)) (sym e) (filed blank)
 
     pub shallow : (get_or b i no_entry).level ≤ 63
     shallow = subst (λ es. (i < length es) → (get_or es i no_entry).level ≤ 63) (sym s.2) (λ k. ((dataset_sound plain d s.1.is).levelled i k).1) h

@@ -30,16 +30,17 @@ use Rattle.naming.specs.Naming.{Name, CardsShow, IndexOf, NamesFit, NamesFound}
 use Rattle.naming.specs.declared.NameFault.{NameFault}
 use Rattle.naming.specs.declared.NameFault.TheVariants as name
 use Rattle.judging.specs.Entries.{Judgeable}
-use Rattle.judging.specs.Findings.{rule_number, missing_type}
+use Rattle.judging.specs.Findings.{rule_number, missing_type, Judged}
+use Rattle.judging.specs.declared.finding.Finding.{Finding}
 use Rattle.judging.specs.declared.finding.Rule.{Rule}
 use Rattle.judging.specs.declared.finding.Rule.TheVariants.{Known, Taken, Aimed, Single, Needed, Filled}
 use Rattle.reading.specs.declared.entered.Entered.{Entered}
 use Rattle.reading.specs.declared.fault.ReadFault.{ReadFault}
 use Rattle.reading.specs.declared.fault.ReadFault.TheVariants.{NoCard}
-use Rattle.std.specs.Result.{MatchResult}
+use Rattle.std.specs.Result.{IsErrAnd, MatchResult, result_err}
 use Rattle.reading.specs.Entered.{Names, Entering}
 use Rattle.reading.specs.Faults.{read_fault}
-use Rattle.reading.specs.Read.{PlacedAt, fault_by, FoundBy, JudgesNamed, Judges, Filed, TellsNames}
+use Rattle.reading.specs.Read.{PlacedAt, fault_by, FoundBy, JudgesNamed, Judges, Filed, TellsBook, TellsNames}
 use Rattle.filling.specs.Filling as Fill
 use Rattle.model.specs.Calls.{Accepted, Declined}
 use Rattle.model.specs.Runs.{number, unread}
@@ -243,6 +244,13 @@ module _ (m : Meaning) (file : List ℕ) (cards : List Card) (out : List Name) (
       let (a, b, index) = fit room ps shown k few in
       (a, b, subst (IndexOf ps) (ap (λ i. take i out) z ∙ sym en) index)) tells
   names_judged (Err f) n fit e s ef ec en j tells = elim e [ ]
+
+-- what the judge of a book finds, told of the entered cards
+pub named_judged : (m : Meaning) (s : Entered) (o : Result (Unit {0}) Finding) (r : Result (Unit {0}) ReadFault) {Q : Finding → ReadFault → Type 0} → ((d : Dataset) → Entering s.file.now s.cards.now s.names.now d → length (entries d) ≤ 65535 → Judged m (body (entries d)) (result_err o)) → MatchResult o (λ u. r ≡ Ok u) (λ f. IsErrAnd r (Q f)) → ((f : Finding) (x : ReadFault) → Q f x → TellsBook s.file.now s.cards.now f x) → JudgesNamed m s r
+named_judged m s (Ok u) (Ok v) judged is tells = judged
+named_judged m s (Ok u) (Err x) judged is tells = (let z : Err x ≡ Ok u = is in absurd (cc))
+named_judged m s (Err f) (Ok v) judged is tells = absurd is
+named_judged m s (Err f) (Err x) judged is tells = λ d e few. let (p, same, placed) = tells f x is in record { finding = f; at = p; told = judged d e few; is = same; placed = placed }
 
 -- a drawer that was filled, or has too few cards
 module _ (file : List ℕ) (rooms : ℕ) (out : List Card) where

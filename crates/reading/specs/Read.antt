@@ -44,6 +44,10 @@ fault_by Single at = Second at
 fault_by (Needed t) at = Missing at t
 fault_by Unfilled at = Bare at
 
+-- and that of what the judge of a book finds, told at the card's line
+abbrev pub TellsBook : List ℕ → List Card → Finding → ReadFault → Type 0
+TellsBook file cards f r = (p : Place) × (r ≡ fault_by f.rule p) × PlacedAt file cards f.card p
+
 -- f tells the lowest rule that an entry breaks, at the place of the first that does
 pub record FoundBy (m : Meaning) (s : Entered) (d : Dataset) (f : ReadFault) : Type 0 where
   pub finding : Finding

@@ -1,5 +1,6 @@
 // The entries of the dataset that a drawer's cards file.
-ghost use Rattle.std.specs.Prelude.{◌≡◌};
+ghost use Rattle.std.specs.Prelude.{◌≡◌, slice_index_or};
+ghost use Rattle.model.specs.Cards.{blank};
 ghost use Rattle.reading.specs.Entered.{Enters};
 
 use judging::Entries;
@@ -16,6 +17,15 @@ pub struct Entered<'f, 'c, 'n> {
     pub names: &'n [Named<'f>],
 }
 
+impl Entered<'_, '_, '_> {
+    // A card. The trait says nothing of one past the last, so the blank card serves there, and this is no Option.
+    fn card(&self, i: usize) -> Card
+        ensures { result ≡ slice_index_or self.now.cards.now i blank }
+    {
+        self.cards.get(i).copied().unwrap_or(Card::BLANK)
+    }
+}
+
 impl<'f, 'c, 'n> Entries for Entered<'f, 'c, 'n> {
     ghost shows = { λ s b. Enters s.file.now s.cards.now s.names.now b };
 
@@ -23,26 +33,16 @@ impl<'f, 'c, 'n> Entries for Entered<'f, 'c, 'n> {
         self.cards.len().saturating_sub(1)
     }
 
-    // past the last card any answer will do, so none of these is an Option
     fn level(&self, i: usize) -> u8 {
-        match self.cards.get(i) {
-            Some(card) => level_of(self.file, *card),
-            None => 0,
-        }
+        level_of(self.file, self.card(i))
     }
 
     fn tag(&self, i: usize) -> &[u8] {
-        match self.cards.get(i) {
-            Some(card) => tag_of(self.file, *card),
-            None => b"",
-        }
+        tag_of(self.file, self.card(i))
     }
 
     fn content(&self, i: usize) -> Content<'_> {
-        match self.cards.get(i) {
-            Some(card) => content_of(self.file, *card),
-            None => Content::Nothing,
-        }
+        content_of(self.file, self.card(i))
     }
 
     fn target(&self, i: usize) -> Option<usize> {

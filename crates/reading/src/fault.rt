@@ -32,8 +32,8 @@ pub enum ReadFault {
 }
 
 impl ReadFault {
-    // Its number, which people are told, and its place, and the type that is missing: a variant holds a place, so none casts to
-    // a number.
+    // Its number, which people are told, and its place, and the type that is missing: the variants hold a value, so none casts
+    // to a number.
     pub fn fault(&self) -> Fault
         ensures { result ≡ read_fault self.now }
     {

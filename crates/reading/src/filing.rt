@@ -1,12 +1,12 @@
 // Reading a tree: the drawer then holds the one dataset of the book with the file's lines, or is blank.
 ghost use Rattle.std.specs.Prelude.{◌≡◌, ◌≤◌, length};
-ghost use Rattle.reading.specs.Read.{Fits, Judges, JudgesNamed, Reads, PlacedAt, TellsNames, fault_by};
+ghost use Rattle.reading.specs.Read.{Fits, Judges, JudgesNamed, Reads, PlacedAt, TellsBook, TellsNames, fault_by};
 
 use crate::entered::Entered;
 use crate::fault::ReadFault;
 use books::Book;
 use filling::{blank_from, fill};
-use judging::{Rule, judge};
+use judging::{Finding, Rule, judge};
 use looking::place_at;
 use model::{Card, MOST, Place};
 use naming::{NameFault, UNNAMED, check_names};
@@ -40,17 +40,18 @@ fn told_of_names(file: &[u8], cards: &[Card], fault: NameFault) -> ReadFault
     }
 }
 
+fn told_of_book(file: &[u8], cards: &[Card], finding: Finding) -> ReadFault
+    ensures { TellsBook file.now cards.now finding result }
+{
+    let at = place_of(file, cards, finding.card);
+    told(finding.rule, at)
+}
+
 // Whether cards that keep the rules of the identifiers keep those of the book.
 fn judge_named<B: Book>(entered: Entered<'_, '_, '_>, book: &B) -> Result<(), ReadFault>
     ensures { JudgesNamed (B.meaning book.now) entered.entry result }
 {
-    match judge(book, &entered) {
-        Some(finding) => {
-            let at = place_of(entered.file, entered.cards, finding.card);
-            Err(told(finding.rule, at))
-        }
-        None => Ok(()),
-    }
+    judge(book, &entered).map_err(|finding| told_of_book(entered.file, entered.cards, finding))
 }
 
 // Whether the cards of a file that keeps the rules of the lines keep those of the identifiers and of the book.

@@ -1,4 +1,5 @@
-// A tree is read into a drawer.
+// A tree is read into a drawer. The file, the drawer and the book stay parameters, since a caller lends them for one call: a
+// struct of the file and its cards, or of the file and the book, would be made for one question and be no plainer.
 #![tactic(auto)]
 
 mod entered;

@@ -1,5 +1,5 @@
 -- What a judge of entered cards says of their dataset. Assumes nothing.
-use Rattle.std.proofs.Common.{◌≡◌, ℕ, ◌+◌, Bool, true, false, not, List, [], ◌∷◌, map, get_or, is_some, Some, None, Decides, Option, refl, ap, subst}
+use Rattle.std.proofs.Common.{◌≡◌, ℕ, ◌+◌, Bool, true, false, List, [], ◌∷◌, map, get_or, is_ok, Ok, Err, Result, Decides, Option, refl, ap, subst}
 use Rattle.std.proofs.lemmas.Bool.{both_ways}
 use Rattle.model.specs.declared.Card.{Card}
 use Rattle.model.specs.Lines.{Line}
@@ -14,6 +14,7 @@ use Rattle.model.specs.Refusals.{lines_of, byte_at, others}
 use Rattle.model.proofs.Filing.{held_once}
 use Rattle.model.proofs.Judging.{belongs_found, refusal_told}
 use Rattle.model.proofs.Refusing.{book_keeps}
+use Rattle.std.specs.Result.{result_err}
 use Rattle.judging.specs.Findings.{Judged}
 use Rattle.judging.specs.declared.finding.Finding.{Finding}
 use Rattle.removing.specs.Belonging.{HeldTells}
@@ -33,11 +34,11 @@ told_foreign m d is number card missing t b =
     let r = refusal_told m d ps is (lines_placed (lines d)) number card (place + 1) (byte_at ps place) missing t refl refl in
     book_keeps m ps d r.rule _ b r.tells
 
-pub found_none : (m : Meaning) (d : Dataset) → IsDataset d → (o : Option Finding) → Judged m (body (entries d)) o → (r : Bool) → is_some o ≡ not r → Decides r (Belongs m d)
-found_none m d is None f true e = (λ _. belongs_found m d f, λ _. refl)
-found_none m d is None f false e = absurd (both_ways false refl e)
-found_none m d is (Some f) t true e = absurd (both_ways true e refl)
-found_none m d is (Some f) t false e = (λ q. absurd (both_ways false refl q), λ b. absurd (told_foreign m d is _ _ _ t b))
+pub found_none : (m : Meaning) (d : Dataset) → IsDataset d → (o : Result (Unit {0}) Finding) → Judged m (body (entries d)) (result_err o) → (r : Bool) → r ≡ is_ok o → Decides r (Belongs m d)
+found_none m d is (Ok u) f true e = (λ _. belongs_found m d f, λ _. refl)
+found_none m d is (Ok u) f false e = absurd (both_ways false refl e)
+found_none m d is (Err f) t true e = absurd (both_ways true e refl)
+found_none m d is (Err f) t false e = (λ q. absurd (both_ways false refl q), λ b. absurd (told_foreign m d is _ _ _ t b))
 
 -- no drawer holds two datasets
 pub told_held : (m : Meaning) (file : List ℕ) (cards : List Card) (d : Dataset) → Holds file cards d → (r : Bool) → Decides r (Belongs m d) → HeldTells m file cards r

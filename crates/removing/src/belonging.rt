@@ -16,7 +16,7 @@ use reading::Entered;
 pub fn keeps_rules<B: Book>(entered: Entered<'_, '_, '_>, book: &B) -> bool
     ensures { (d : Dataset) → EnteredAs entered.entry d → Decides result (Belongs (B.meaning book.now) d) }
 {
-    judge(book, &entered).is_none()
+    judge(book, &entered).is_ok()
 }
 
 // Whether the tree that a drawer holds belongs to the book; none where it holds no tree of the file.

@@ -1,5 +1,5 @@
 // The cards of a view.
-ghost use Rattle.std.specs.Prelude.{◌≡◌, ℕ, List};
+ghost use Rattle.std.specs.Prelude.{◌≡◌, ℕ, List, MatchOption};
 ghost use Rattle.model.specs.Datasets.{Entry, Dataset, first_value};
 ghost use Rattle.model.specs.Files.{Placed, Lined};
 ghost use Rattle.model.specs.Cards.{StandsAt, Files, Holds};
@@ -7,6 +7,7 @@ ghost use Rattle.model.specs.Removal.{card_count};
 ghost use Rattle.model.specs.Runs.{shown_payload, look_reply, more_reply};
 ghost use Rattle.model.proofs.Entries.{Settled};
 ghost use Rattle.lines.specs.Shown.{value_of};
+ghost use Rattle.looking.specs.Looking.{Shown};
 ghost use Rattle.viewing.specs.Answers.{payload_of, look_answer, more_answer};
 ghost use Rattle.viewing.specs.Views.{CardAt, FaceOf};
 
@@ -49,21 +50,14 @@ fn left_payload<'f>(file: &'f [u8], card: Card, payload: Payload<'f>) -> Payload
     }
 }
 
-fn face_of(file: &[u8], card: Card) -> Face<'_>
-    ensures { FaceOf file.now card result }
+fn face_of(file: &[u8], card: Card) -> Option<Face<'_>>
+    ensures { MatchOption result ((e : Entry) → Shown file.now card e → ⊥) (FaceOf file.now card) }
 {
-    match line_at(file, card.byte as usize) {
-        Some(line) => Face {
-            payload: left_payload(file, card, line.payload),
-            ..line
-        },
-        None => Face {
-            level: 0,
-            identifier: None,
-            tag: &file[0..0],
-            payload: Payload::None,
-        },
-    }
+    let line = line_at(file, card.byte as usize)?;
+    Some(Face {
+        payload: left_payload(file, card, line.payload),
+        ..line
+    })
 }
 
 impl<'f, 'c> View<'f, 'c> {
@@ -79,7 +73,7 @@ impl<'f, 'c> View<'f, 'c> {
         ensures { (d : Dataset) → Holds self.now.file.now self.now.drawer.now d → look_answer result ≡ look_reply d card }
     {
         let card = card_at(self.drawer, card)?;
-        Ok(face_of(self.file, card))
+        face_of(self.file, card).ok_or(Refusal::Past)
     }
 
     // The further line `number` of a card's text, from 0, or none past the last.

@@ -25,6 +25,7 @@ fn named(drawer: &[Card]) -> &[Card]
 fn write_cards(file: &[u8], drawer: &[Card], buffer: &mut [u8], at: usize) -> usize
     ensures { (d : Dataset) → Holds file.now drawer.now d → Adds buffer.old at (with_line_feeds (lines d)) result buffer.new }
 {
+    // a loop: with fold what the buffer holds in the end was not proved
     let mut end = at;
     for card in named(drawer) {
         end = write_card(file, *card, buffer, end);

@@ -17,6 +17,7 @@ fn continued_size(behind: Cursor<'_>) -> usize
     ensures size { (level : ℕ) (texts : List (List ℕ)) → Trails behind.entry.file.now behind.entry.at level texts → result ≡ length (with_line_feeds (continuations level texts)) }
     ensures bound { behind.entry.at + result ≤ length behind.entry.file.now }
 {
+    // a loop: with take_while, map and sum the bound of the sum was not proved
     let mut cursor = behind;
     let mut size = 0;
     while let Some(line) = next_continuation(&mut cursor) {
@@ -25,7 +26,8 @@ fn continued_size(behind: Cursor<'_>) -> usize
     size
 }
 
-// How many bytes are written of a card.
+// How many bytes are written of a card: 0 where it has no line, of which nothing is said, since a public function that could
+// not fail still cannot.
 pub fn card_size(file: &[u8], card: Card) -> usize
     ensures size { (e : Entry) → Shown file.now card e → result ≡ length (card_bytes e) }
     ensures bound { result ≤ length file.now + 8 }
@@ -44,6 +46,7 @@ pub fn card_size(file: &[u8], card: Card) -> usize
 fn put_continued(buffer: &mut [u8], at: usize, behind: Cursor<'_>) -> usize
     ensures { (level : ℕ) (texts : List (List ℕ)) → Trails behind.entry.file.now behind.entry.at level texts → Adds buffer.old at (with_line_feeds (continuations level texts)) result buffer.new }
 {
+    // a loop: with take_while and fold what the buffer holds in the end was not proved
     let mut cursor = behind;
     let mut end = at;
     while let Some(line) = next_continuation(&mut cursor) {
@@ -60,7 +63,8 @@ fn put_void(buffer: &mut [u8], at: usize) -> usize
     put_line(buffer, end, VOID)
 }
 
-// Writes a card to a place of the buffer, and answers where it ends.
+// Writes a card to a place of the buffer, and answers where it ends: at that place where it has no line, of which nothing is
+// said, since a public function that could not fail still cannot.
 pub fn write_card(file: &[u8], card: Card, buffer: &mut [u8], at: usize) -> usize
     ensures { (e : Entry) → Shown file.now card e → Adds buffer.old at (card_bytes e) result buffer.new }
 {

@@ -5,7 +5,8 @@ ghost use Rattle.writing.specs.Own.{BeforeAt, GoesOn, Advances};
 use lines::Cursor;
 use looking::is_continuation;
 
-// A cursor before the line that begins at a byte.
+// A cursor before the line that begins at a byte, and at the end where that is past the file: that of `looking` is an Option
+// for such a byte, so with it each of the two callers would have two guards in the place of one.
 pub fn cursor_at(file: &[u8], byte: usize) -> Cursor<'_>
     ensures before { BeforeAt file.now byte result.file.now result.at }
     ensures short { length result.file.now ≤ length file.now }

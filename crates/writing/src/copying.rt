@@ -3,7 +3,8 @@
 ghost use Rattle.std.specs.Prelude.{[], ◌∷◌, ◌++◌};
 ghost use Rattle.writing.specs.Written.{Adds};
 
-// Copies bytes to a place of the buffer, and answers where they end. Where there is no room for them, nothing is copied.
+// Copies bytes to a place of the buffer, and answers where they end. Where there is no room for them, nothing is copied, and
+// the answer is the place: a public function that could not fail, asked only of buffers with room.
 pub fn put(buffer: &mut [u8], at: usize, bytes: &[u8]) -> usize
     ensures { Adds buffer.old at bytes.now result buffer.new }
 {

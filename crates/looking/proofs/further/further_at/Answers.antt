@@ -1,10 +1,15 @@
-use Rattle.std.proofs.Common.{◌≡◌, ◌+◌, ◌-◌, ◌∷◌, ◌≡◌, ℕ, rules, Some, sym, ap, ◌∙◌, subst, inl, inr, arith}
-use Rattle.std.specs.List.{slice_get}
-use Rattle.std.proofs.lemmas.Bool.Decides.{not_from_Decides}
-use Rattle.model.specs.Datasets.{Entry}
-use Rattle.lines.specs.declared.cursor.Cursor.{Cursor}
+use Rattle.std.proofs.Common.{◌++◌, ℕ, List, map, Some, sym, ap, ◌∙◌, subst, rules, Bor}
+use borrow.Author.Tests.{tests}
+use Rattle.std.proofs.lemmas.Iterator.Consumers.{nth_from_yields_List}
+use Rattle.std.proofs.lemmas.Iterator.Search.{YieldsList-from_take_while}
+use Rattle.std.proofs.lemmas.Iterator.{YieldsList}
+use Rattle.std.specs.Option.{option_map}
+use Rattle.lines.specs.declared.steps.Found.{Found}
+use Rattle.lines.specs.Iterating.{GivesNext}
+use Rattle.looking.specs.Looking.{text_in}
 use Rattle.looking.proofs.Left.{cut_within, cut_left, left_more}
-use Rattle.looking.proofs.Trailing.{Trailing, whole_of, trailing_start, trailing_end, trailing_comes, text_is}
+use Rattle.looking.proofs.Trailing.{whole_of}
+use Rattle.looking.proofs.Onward.{seen, part_of, goes_on, cursor_gives, further_read, tested}
 use Rattle.looking.proofs.further.further_at.Goals as goal
 
 pub returns-in_err-cursor : goal.returns-in_err-cursor
@@ -12,72 +17,27 @@ returns-in_err-cursor c ps e l s =
     let w = whole_of ps c.args.byte e s in
     absurd (c.in_err-cursor.ensures ps w.place l (cut_within ps w.place w.cut) w.begins)
 
-pub returns-in_err-_own : goal.returns-in_err-_own
-returns-in_err-_own c ps e l s =
+pub returns-in_err-next : goal.returns-in_err-next
+returns-in_err-next c ps e l s =
     let at = c.in_ok-cursor.cursor in
     let w = whole_of ps c.args.byte e s in
     let left = cut_left at.file.now at.at ps w.place w.cut (c.in_ok-cursor.ensures ps w.place l (cut_within ps w.place w.cut) w.begins) in
-    absurd (left_more at.file.now at.at w.cut.line w.cut.more left c.in_err-_own.ensures.steps.1)
+    absurd (left_more at.file.now at.at w.cut.line w.cut.more left c.in_err-next.ensures.steps.1)
 
-moved : (s t : Cursor) (k m number : ℕ) (e : Entry) → t ≡ s → m ≡ k → Trailing s.file.now s.at k number e → Trailing t.file.now t.at m number e
-moved s t k m number e p q x = subst (λ (c : Cursor). Trailing c.file.now c.at m number e) (sym p) (subst (λ j. Trailing s.file.now s.at j number e) (sym q) x)
-
-pub loop-passed-init : goal.loop-passed-init
-loop-passed-init c =
-    let it : c.into_iter-passed-iterator.result.iter ≡ c.next.new.self = cc in
-    let none : c.into_iter-passed-iterator.result.count ≡ 0 = cc in (
-      search rules,
-      search rules,
-      omega arith,
-      λ ps e l s.
-          let w = whole_of ps c.args.byte e s in
-          let at = c.in_ok-cursor.cursor in
-          let left = cut_left at.file.now at.at ps w.place w.cut (c.in_ok-cursor.ensures ps w.place l (cut_within ps w.place w.cut) w.begins) in
-          moved c.next.new.self c.into_iter-passed-iterator.result.iter 0 c.into_iter-passed-iterator.result.count c.args.number e it none
-          (subst (λ f. Trailing f c.next.new.self.at 0 c.args.number e) (sym c.in_ok-_own.ensures.steps.file)
-          (trailing_start at.file.now at.at at.lines c.next.new.self.at c.next.new.self.lines c.args.number c.in_ok-_own._own ps c.args.byte e w left c.in_ok-_own.ensures.steps.comes)),
-    )
-
-pub returns-then-not-is_continuation : goal.returns-then-not-is_continuation
-returns-then-not-is_continuation c ps e l s =
-    let it = c.loop-passed.passed-iterator in
-    let came = trailing_comes it.iter.file.now it.iter.at it.iter.lines _ _ it.count c.args.number e c.in-Some.found (c.loop-passed.invariant.3 ps e l s) c.in-Some.ensures.steps.0.comes in
-    elim came [
-      | inl on ↦ absurd (not_from_Decides c.is_continuation.result c.is_continuation.ensures c.if-not-is_continuation.true on.tag)
-      | inr end ↦ end.none
-    ]
-
-pub returns-then-passed-number : goal.returns-then-passed-number
-returns-then-passed-number c ps e l s =
-    let it = c.loop-passed.passed-iterator in
-    let here = c.in-Some.ensures.steps.1 in
-    let same = c.if-passed-number.true in
-    let came = trailing_comes it.iter.file.now it.iter.at it.iter.lines _ _ it.count c.args.number e c.in-Some.found (c.loop-passed.invariant.3 ps e l s) c.in-Some.ensures.steps.0.comes in
-    elim came [
-      | inl on ↦ ap Some (c.text_in.ensures ∙ text_is c.in-Some.found.line.payload on.text on.value) ∙ sym (on.told ∙ ap (slice_get (on.text ∷ on.more)) (let z : c.args.number - it.count ≡ 0 = omega arith in z))
-      | inr end ↦ absurd (end.other (c.is_continuation.ensures.0 c.if-not-is_continuation.false))
-    ]
-
-pub loop-passed-preserved : goal.loop-passed-preserved
-loop-passed-preserved c =
-    let it = c.loop-passed.passed-iterator in
-    let next = c.next-in-loop-passed.new.self in
-    let here = c.in-Some.ensures.steps.1 in
-    let on = c.in-Some.ensures.steps.2 in
-    let low = c.loop-passed.invariant.2 in
-    let other : it.count ≡ c.args.number → ⊥ = λ q. c.if-passed-number.false (here ∙ q) in (
-      search rules,
-      search rules,
-      omega arith,
-      λ ps e l s.
-          let came = trailing_comes it.iter.file.now it.iter.at it.iter.lines next.iter.at _ it.count c.args.number e c.in-Some.found (c.loop-passed.invariant.3 ps e l s) c.in-Some.ensures.steps.0.comes in
-          elim came [
-            | inl more ↦ subst (λ k. Trailing next.iter.file.now next.iter.at k c.args.number e) (sym on) (subst (λ f. Trailing f next.iter.at (it.count + 1) c.args.number e) (sym c.in-Some.ensures.steps.0.file) (more.on other low))
-            | inr end ↦ absurd (end.other (c.is_continuation.ensures.0 c.if-not-is_continuation.false))
-          ],
-    )
+pub returns-in_err-found : goal.returns-in_err-found
+returns-in_err-found c ps e l s =
+    let w = whole_of ps c.args.byte e s in
+    let before = c.in_ok-cursor.ensures ps w.place l (cut_within ps w.place w.cut) w.begins in
+    let gives = cursor_gives ps c.args.byte e w c.in_ok-cursor.cursor c.next.new.self c.in_ok-next.field-0 before c.in_ok-next.ensures.steps in
+    let told = nth_from_yields_List c.nth.result _ c.args.number c.nth.ensures.ran (YieldsList-from_take_while _ goes_on (subst (λ t. YieldsList GivesNext seen t (map part_of (w.own ++ w.rest))) (sym c.take_while.ensures.source) gives) c.take_while.ensures.closure c.take_while.ensures.done (λ x b q k. search (rules, tests, tested))) in
+    let read = further_read ps c.args.byte e w c.args.number c.nth.result told in
+    ap (option_map (λ (t : Bor (List ℕ)). t.now)) c.from_residual-in_err-found.ensures ∙ sym (ap (option_map (λ (f : Found). text_in f.line.payload)) c.in_err-found.was) ∙ read
 
 pub returns : goal.returns
 returns c ps e l s =
-    let it = c.loop-passed.passed-iterator in
-    trailing_end it.iter.file.now it.iter.at it.count c.args.number e (c.loop-passed.invariant.3 ps e l s) c.in-None.ensures.steps.0.1
+    let w = whole_of ps c.args.byte e s in
+    let before = c.in_ok-cursor.ensures ps w.place l (cut_within ps w.place w.cut) w.begins in
+    let gives = cursor_gives ps c.args.byte e w c.in_ok-cursor.cursor c.next.new.self c.in_ok-next.field-0 before c.in_ok-next.ensures.steps in
+    let told = nth_from_yields_List c.nth.result _ c.args.number c.nth.ensures.ran (YieldsList-from_take_while _ goes_on (subst (λ t. YieldsList GivesNext seen t (map part_of (w.own ++ w.rest))) (sym c.take_while.ensures.source) gives) c.take_while.ensures.closure c.take_while.ensures.done (λ x b q k. search (rules, tests, tested))) in
+    let read = further_read ps c.args.byte e w c.args.number c.nth.result told in
+    ap Some c.text_in.ensures ∙ sym (ap (option_map (λ (f : Found). text_in f.line.payload)) c.in_ok-found.was) ∙ read

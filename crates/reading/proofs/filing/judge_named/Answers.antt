@@ -1,17 +1,8 @@
-use Rattle.std.proofs.Common.{refl}
+use Rattle.std.proofs.Common.{refl, rules}
 use Rattle.model.specs.Datasets.{entries}
 use Rattle.model.specs.Edits.{body}
-use Rattle.reading.proofs.Reading.{judgeable}
+use Rattle.reading.proofs.Reading.{judgeable, named_judged}
 use Rattle.reading.proofs.filing.judge_named.Goals as goal
 
-pub returns-in-Some : goal.returns-in-Some
-returns-in-Some g c d e few = record {
-  finding = c.in-Some.finding;
-  at = c.place_of-at.result;
-  told = c.in-Some.ensures (body (entries d)) (d, e, refl) (judgeable d e.is few);
-  is = c.told.ensures;
-  placed = c.place_of-at.ensures;
-}
-
-pub returns-in-None : goal.returns-in-None
-returns-in-None g c d e few = c.in-None.ensures (body (entries d)) (d, e, refl) (judgeable d e.is few)
+pub returns : goal.returns
+returns g c = named_judged (g.B.Book.meaning c.args.book.now) c.args.entered c.judge.result c.map_err.result (λ d e few. c.judge.ensures (body (entries d)) (d, e, refl) (judgeable d e.is few)) c.map_err.ensures.cases (λ f x k. search rules)
