@@ -108,6 +108,6 @@ impl Book for Home {
     }
 
     fn member(&self, set: u16, word: &[u8]) -> bool {
-        words(set).contains(&word)
+        words(set).iter().any(|known| *known == word)
     }
 }

@@ -49,7 +49,8 @@ impl<B: Book> Book for Open<B> {
     ghost lawful = { λ x. open_lawful (B.Book.meaning x.below) (B.Book.lawful x.below) };
 
     fn types(&self) -> usize {
-        self.below.types() + usize::from(self.further().is_some())
+        let below = self.below.types();
+        below + usize::from(below < MOST_TYPES)
     }
 
     fn row(&self, context: Context, tag: &[u8]) -> Option<Row> {

@@ -28,7 +28,7 @@ fn after_year<'a, C: Calendar>(words: Words<'a>) -> Option<Words<'a>>
     ensures { left_of result ≡ after_year C.reckoning (words_of words.entry) }
 {
     let (word, rest) = words.split_first()?;
-    is_integer(word).then_some(after_epoch::<C>(rest))
+    is_integer(word).then(|| after_epoch::<C>(rest))
 }
 
 // Behind a number, which is a day if a month follows it, and else a year.

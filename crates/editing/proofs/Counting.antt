@@ -1,10 +1,10 @@
 -- How many structures of a type stand in a row, by the positions of the row. Assumes nothing.
-use Rattle.std.proofs.Common.{◌≡◌, ℕ, zero, suc, ◌+◌, ◌<◌, ◌≤◌, Bool, true, false, cond, ◌&&◌, eqb, ltb, ◌⊎◌, List, [], ◌∷◌, length, get_or, drop, Some, None, Option, MatchOption, ◌-◌, filter, subst, sym, refl, ap, ◌∙◌, ap₂, inl, inr, arith}
+use Rattle.std.proofs.Common.{◌≡◌, ℕ, zero, suc, ◌+◌, ◌<◌, ◌≤◌, Bool, true, false, true≢false, cond, not, ◌&&◌, eqb, ltb, ◌⊎◌, List, [], ◌∷◌, length, get_or, drop, Some, None, Option, MatchOption, ◌-◌, filter, subst, sym, refl, ap, ◌∙◌, ap₂, inl, inr, arith}
 use Rattle.std.specs.List.{range_with_len}
-use Rattle.std.specs.Option.{option_map, IfSome}
+use Rattle.std.specs.Option.{option_map, IfSome, IsSomeAnd}
 use Rattle.std.proofs.lemmas.Option.{same_Some}
 use Rattle.model.proofs.Options.{never}
-use Rattle.std.proofs.lemmas.Bool.{cases_lt, eq-eqb, ne_eqb, lt-ltb}
+use Rattle.std.proofs.lemmas.Bool.{cases_lt, eq-eqb, ne_eqb, lt-ltb, ltb-true, ltb-false}
 use Rattle.model.specs.Books.{Meaning}
 use Rattle.model.specs.Datasets.{Entry}
 use Rattle.model.specs.Edits.{no_entry, row_types}
@@ -12,15 +12,7 @@ use Rattle.model.specs.Positions.{level_at}
 use Rattle.model.specs.Removal.{how_many}
 use Rattle.model.proofs.Flat.{types_end, types_stop, types_pass, types_more}
 use Rattle.editing.specs.declared.rows.Siblings.{Siblings}
-use Rattle.editing.specs.Rows.{is_typed, stands_at}
-
-pub counts_up : (items : List ℕ) (a n : ℕ) → length items ≡ n → ((k : ℕ) → k < n → get_or items k 0 ≡ a + k) → items ≡ range_with_len a n
-counts_up [] a zero e at = refl
-counts_up [] a (suc n) e at = absurd (omega arith)
-counts_up (x ∷ xs) a zero e at = absurd (omega arith)
-counts_up (x ∷ xs) a (suc n) e at =
-    let first : x ≡ a = at 0 (omega arith) ∙ omega arith in
-    ap₂ ◌∷◌ first (counts_up xs (a + 1) n (omega arith) (λ k h. at (suc k) (omega arith) ∙ omega arith))
+use Rattle.editing.specs.Rows.{is_typed, stands_at, told_at}
 
 and_test : (x y z : Bool) → y ≡ false → (x && (y && z)) ≡ false
 and_test true y z e = ap (λ w. w && z) e
@@ -29,6 +21,21 @@ and_test false y z e = refl
 more : (s : Bool) (j : ℕ) (rest : List ℕ) → length (cond s (j ∷ rest) rest) ≡ cond s 1 0 + length rest
 more true j rest = omega arith
 more false j rest = omega arith
+
+one_more : {X : Type 0} (s : Bool) (x : X) (rest : List X) → length (cond s (x ∷ rest) rest) ≡ cond s 1 0 + length rest
+one_more true x rest = omega arith
+one_more false x rest = omega arith
+
+-- as many answers are yes as there are positions where the test passes
+pub picked : (f : ℕ → Bool) (items : List Bool) (a n : ℕ) → length items ≡ n → ((k : ℕ) → k < n → get_or items k false ≡ f (a + k)) → length (filter (λ x. x) items) ≡ length (filter f (range_with_len a n))
+picked f [] a zero e at = refl
+picked f [] a (suc n) e at = absurd (omega arith)
+picked f (x ∷ xs) a zero e at = absurd (omega arith)
+picked f (x ∷ xs) a (suc n) e at =
+    let here : a + 0 ≡ a = omega arith in
+    let first : x ≡ f a = at 0 (omega arith) ∙ ap f here in
+    let rest = picked f xs (a + 1) n (omega arith) (λ k h. let next : a + suc k ≡ a + 1 + k = omega arith in at (suc k) (omega arith) ∙ ap f next) in
+    one_more x x (filter (λ y. y) xs) ∙ ap₂ (λ y z. cond y 1 0 + z) first rest ∙ sym (one_more (f a) a (filter f (range_with_len (a + 1) n)))
 
 module _ (m : Meaning) (b : List Entry) (row : Siblings) (t : ℕ) where
   -- at the first position and behind it
@@ -64,9 +71,6 @@ module _ (a e len rlen : ℕ) (qat rat : ℕ → Option ℕ) (same : (k : ℕ) �
   here : (k : ℕ) → k < len → qat k ≡ Some (a + k)
   here k h = known (qat k) (a + k) (ap (option_map (λ y. y)) (sym (same k h)) ∙ up k (omega arith))
 
-  pub walked : (items : List ℕ) → ((k d : ℕ) → k < len → option_map (λ y. y) (qat k) ≡ Some (get_or items k d)) → (k : ℕ) → k < len → get_or items k 0 ≡ a + k
-  walked items reads k h = same_Some _ _ (sym (reads k 0 h) ∙ ap (option_map (λ y. y)) (here k h))
-
   module _ (bound : (k : ℕ) → IfSome (rat k) (λ x. (x ≡ a + k) × (x < e))) where
     pub kept_to : (P Q : ℕ → Type 0) → ((x : ℕ) → x < e → P x → Q x) → ((k : ℕ) → IfSome (qat k) P) → (k : ℕ) → a ≤ k → k < a + len → (k < e) × Q k
     kept_to P Q told kept k low h =
@@ -84,3 +88,45 @@ module _ (a e len rlen : ℕ) (qat rat : ℕ → Option ℕ) (same : (k : ℕ) �
         go (Some x) is p =
             let (at, less) = subst (λ o. IfSome o (λ x. (x ≡ a + len) × (x < e))) is (bound len) in
             inr (omega arith, subst Q at (told x less p))
+
+-- Of answers about the positions of a row, as far as they come
+
+told_by : (c d s : Bool) (y : Bool) → Some y ≡ cond (c && not d) (Some s) None → (c ≡ true) × (d ≡ false) × (y ≡ s)
+told_by true false s y e = (refl, refl, same_Some _ _ e)
+told_by true true s y e = never y (sym e)
+told_by false d s y e = never y (sym e)
+
+ended_by : (c d s : Bool) → None ≡ cond (c && not d) (Some s) None → c ≡ true → d ≡ true
+ended_by true true s e h = refl
+ended_by true false s e h = never s e
+ended_by false d s e h = absurd (true≢false (sym h))
+
+module _ (m : Meaning) (b : List Entry) (row : Siblings) (t : ℕ) where
+  pub told_end : (k : ℕ) → k < length b → None ≡ told_at m b row t k → level_at b k < row.level
+  told_end k h e = ltb-true (level_at b k) row.level (ended_by (ltb k (length b)) (ltb (level_at b k) row.level) (stands_at m b row t k) e (lt-ltb k (length b) h))
+
+  module _ (a len rlen : ℕ) (pat : ℕ → Option Bool) (rat : ℕ → Option ℕ) (within : len ≤ rlen) (up : (k : ℕ) → k < rlen → option_map (λ y. y) (rat k) ≡ Some (a + k)) (P : ℕ → Bool → Type 0) (tells : (x : ℕ) (y : Bool) → P x y → Some y ≡ told_at m b row t x) (each : (k : ℕ) → k < len → IfSome (rat k) (λ x. IsSomeAnd (pat k) (λ y. P x y))) where
+    told_of : (k : ℕ) → k < len → (y : Bool) × (pat k ≡ Some y) × (Some y ≡ told_at m b row t (a + k))
+    told_of k h = go (pat k) refl (subst (λ o. IfSome o (λ x. IsSomeAnd (pat k) (λ y. P x y))) (known (rat k) (a + k) (up k (omega arith))) (each k h))
+      where
+        go : (o : Option Bool) → pat k ≡ o → IsSomeAnd o (λ y. P (a + k) y) → (y : Bool) × (pat k ≡ Some y) × (Some y ≡ told_at m b row t (a + k))
+        go None is p = absurd p
+        go (Some y) is p = (y, is, tells (a + k) y p)
+
+    told_so : (k : ℕ) → k < len → (y : Bool) × (pat k ≡ Some y) × (a + k < length b) × (row.level ≤ level_at b (a + k)) × (y ≡ stands_at m b row t (a + k))
+    told_so k h =
+        let (y, is, e) = told_of k h in
+        let (c, d, s) = told_by (ltb (a + k) (length b)) (ltb (level_at b (a + k)) row.level) (stands_at m b row t (a + k)) y e in
+        (y, is, ltb-true (a + k) (length b) c, ltb-false (level_at b (a + k)) row.level d, s)
+
+    pub answers : (items : List Bool) → ((k : ℕ) (d : Bool) → k < len → option_map (λ y. y) (pat k) ≡ Some (get_or items k d)) → (k : ℕ) → k < len → get_or items k false ≡ stands_at m b row t (a + k)
+    answers items reads k h =
+        let (y, is, _, _, s) = told_so k h in
+        same_Some _ _ (sym (reads k false h) ∙ ap (option_map (λ y. y)) is) ∙ s
+
+    pub deep_to : (k : ℕ) → a ≤ k → k < a + len → (k < length b) × (row.level ≤ level_at b k)
+    deep_to k low h =
+        let i = k - a in
+        let at : a + i ≡ k = omega arith in
+        let (_, _, c, d, _) = told_so i (omega arith) in
+        (omega arith, subst (λ x. row.level ≤ level_at b x) at d)

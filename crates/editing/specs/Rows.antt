@@ -23,6 +23,10 @@ is_typed t o = same_type (Some t) (type_in o)
 abbrev pub stands_at : Meaning → List Entry → Siblings → ℕ → ℕ → Bool
 stands_at m b row t k = nat_lt k (length b) && (level_at b k == row.level && is_typed t (m.row row.context (slice_index_or b k no_entry).tag))
 
+-- the same up to where the row has ended, and nothing from there on
+abbrev pub told_at : Meaning → List Entry → Siblings → ℕ → ℕ → Option Bool
+told_at m b row t k = cond (nat_lt k (length b) && not (nat_lt (level_at b k) row.level)) (Some (stands_at m b row t k)) None
+
 -- By the row of a structure in the book
 
 abbrev pub required_in : Option Row → Bool

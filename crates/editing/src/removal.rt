@@ -17,7 +17,7 @@ impl<B: Book, E: Entries> Tree<'_, B, E> {
     fn inside(&self, row: Option<Row>) -> Context
         ensures { result ≡ within (B.meaning self.now.book.now) row }
     {
-        Context::Under(row.map_or(self.book.types() as u16, |row| row.typed))
+        Context::Under(row.map_or_else(|| self.book.types() as u16, |row| row.typed))
     }
 
     // What the removal of a card does that stands in this row, or below one of it, at `start` or behind.

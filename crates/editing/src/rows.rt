@@ -3,7 +3,7 @@ ghost use Rattle.std.specs.Prelude.{◌≡◌, ◌+◌, ◌≤◌, List, drop, S
 ghost use Rattle.model.specs.Datasets.{Entry};
 ghost use Rattle.model.specs.Edits.{block};
 ghost use Rattle.model.specs.Removal.{how_many};
-ghost use Rattle.editing.specs.Rows.{types_in, stands_at};
+ghost use Rattle.editing.specs.Rows.{types_in, told_at};
 
 use crate::tree::Tree;
 use books::Book;
@@ -29,22 +29,31 @@ impl<B: Book, E: Entries> Tree<'_, B, E> {
         from + deeper.count()
     }
 
-    // Whether a structure of a type stands at a position, in a row of this context and level.
-    fn stands(&self, siblings: Siblings, at: usize, typed: u16) -> bool
-        ensures { (b : List Entry) → E.shows self.now.entries.now b → result ≡ stands_at (B.meaning self.now.book.now) b siblings typed at }
+    // Whether a structure of a type stands at a position, in a row of this context and level; none where the row has ended.
+    // The level is asked once, since it is read from the file.
+    fn stands(&self, siblings: Siblings, at: usize, typed: u16) -> Option<bool>
+        ensures { (b : List Entry) → E.shows self.now.entries.now b → result ≡ told_at (B.meaning self.now.book.now) b siblings typed at }
     {
-        at < self.count
-            && self.level(at) == siblings.level
-            && self
-                .row(siblings.context, at)
-                .is_some_and(|row| typed == row.typed)
+        if at >= self.count {
+            return None;
+        }
+        let level = self.level(at);
+        if level < siblings.level {
+            return None;
+        }
+        Some(
+            level == siblings.level
+                && self
+                    .row(siblings.context, at)
+                    .is_some_and(|row| typed == row.typed),
+        )
     }
 
     // How many structures of a type stand in a row.
     pub fn count_typed(&self, siblings: Siblings, typed: u16) -> usize
         ensures { (b : List Entry) → E.shows self.now.entries.now b → result ≡ how_many (Some typed) (types_in (B.meaning self.now.book.now) b siblings) }
     {
-        let row = (siblings.first..self.count).take_while(|at| self.level(*at) >= siblings.level);
-        row.filter(|at| self.stands(siblings, *at, typed)).count()
+        let row = (siblings.first..self.count).map_while(|at| self.stands(siblings, at, typed));
+        row.filter(|stands| *stands).count()
     }
 }

@@ -48,7 +48,7 @@ pub fn read_level(bytes: &[u8]) -> Option<(u8, &[u8])>
     ensures { ReadsLevel bytes.now result }
 {
     let (digits, rest) = bytes.split_at(run(bytes, |b| b.is_ascii_digit()));
-    is_level(digits).then_some((capped(digits), rest))
+    is_level(digits).then(|| (capped(digits), rest))
 }
 
 // What follows a space.

@@ -210,11 +210,17 @@ lead_encode c real = elim (cases_lt c 128) [
 pub width_none : (a b d e : ℕ) → lead_length a ≡ 0 → width_of a b d e ≡ 0
 width_none a b d e h = grind (arith, nat_tests)
 
+pub width_one : (a b d e : ℕ) → lead_length a ≡ 1 → width_of a b d e ≡ 1
+width_one a b d e h = grind (arith, nat_tests)
+
 pub width_two : (a b d e : ℕ) → lead_length a ≡ 2 → width_of a b d e ≡ cond (is_next b) 2 0
 width_two a b d e h = grind (arith, nat_tests)
 
 pub width_three : (a b d e : ℕ) → lead_length a ≡ 3 → width_of a b d e ≡ cond (is_second a b && is_next d) 3 0
 width_three a b d e h = grind (arith, nat_tests)
+
+pub width_four : (a b d e : ℕ) → lead_length a ≡ 4 → width_of a b d e ≡ cond (is_second a b && (is_next d && is_next e)) 4 0
+width_four a b d e h = grind (arith, nat_tests)
 
 -- In a file
 

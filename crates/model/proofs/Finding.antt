@@ -26,6 +26,10 @@ module _ (P : ℕ → Type 0) where
   pub first_stays : (i n j : ℕ) → i ≤ n → FirstOf P i (Some j) → FirstOf P n (Some j)
   first_stays i n j h f = record { within = let w = f.within in omega arith; breaks = f.breaks; before = f.before }
 
+  -- one that goes down
+  pub from_start : (n : ℕ) → FirstOf (From n P) n None
+  from_start n j h low = absurd (omega arith)
+
   from_here : (i j : ℕ) → From (i + 1) P j → P i → From i P j
   from_here i j f p low = elim (cases_eq j i) [ inl e ↦ subst P (sym e) p | inr n ↦ f (let ne : j ≡ i → ⊥ = n in omega arith) ]
 

@@ -83,6 +83,9 @@ module _ {X : Type 0} (name : X → List ℕ) (card : X → ℕ) (ps : List Plac
     pub once : DistinctBy card xs
     pub all : (k : ℕ) (x : List ℕ) → k < n → (card_line ps k).identifier ≡ Some x → (e : X) × Has xs e × (card e ≡ k)
 
+  pub collected_none : Collected 0 []
+  collected_none = record { each = tt; once = λ i j d il jl e. absurd (omega arith); all = λ k x h is. absurd (omega arith) }
+
   further : (n : ℕ) (xs : List X) → All (Held n) xs → All (Held (n + 1)) xs
   further n xs h = All-weaker (Held n) (Held (n + 1)) (λ x k. (omega arith, k.1)) xs h
 

@@ -1,16 +1,17 @@
 -- The index of identifiers: how it is collected, and what is found in it. Assumes nothing.
-use Rattle.std.proofs.Common.{◌≡◌, ℕ, ◌+◌, ◌<◌, ◌≤◌, min, List, [], ◌∷◌, ◌++◌, map, length, get_or, set, take, Bool, true, false, is_none, Some, None, Option, Ok, Err, Result, Ordering, Less, Equal, Greater, sym, refl, ap, ◌∙◌, subst, inl, inr, true≢false, arith, length-append, length-take, Bor}
+use Rattle.std.proofs.Common.{◌≡◌, ℕ, ◌+◌, ◌<◌, ◌≤◌, ◌⊎◌, min, List, [], ◌∷◌, ◌++◌, map, length, get_or, set, take, Bool, true, false, is_none, Some, None, Option, Ok, Err, Result, Ordering, Less, Equal, Greater, sym, refl, ap, ◌∙◌, subst, inl, inr, true≢false, arith, length-append, length-take, Bor}
 use lib.ListN.{length-map}
-use Rattle.std.specs.Cmp.{nat_cmp_total, on_total}
+use Rattle.std.specs.Cmp.{nat_cmp_total, ranks, on_total, then_total}
 use Rattle.std.specs.Cmp.Lexicographic.{slice_cmp, lists_total}
+use Rattle.std.specs.Bool.{Decides, then_some}
 use Rattle.std.specs.Option.{option_map, MatchOption}
-use Rattle.std.specs.Ordering.{is_lt, ordering_reverse, ordering_then, ordering_index, nat_cmp}
-use Rattle.std.specs.List.Sorted.{IsPartitionPoint, IsNonDecreasingBy, IsSortedBy, IsPermutation, IsBinarySearchResult, IsSearchInRange}
+use Rattle.std.specs.Ordering.{is_lt, is_gt, ordering_reverse, ordering_then, ordering_index, MatchOrdering, nat_cmp}
+use Rattle.std.specs.List.Sorted.{IsPartitionPoint, IsNonDecreasingBy, IsPermutation, IsBinarySearchResult, IsSearchInRange}
 use Rattle.std.specs.List.{AllWithin, HoldsAt}
-use Rattle.std.specs.Result.{result_ok}
 use Rattle.std.proofs.ByRecursion.{All-get_or}
+use Rattle.std.proofs.lemmas.List.MinMax.{ranks_by}
 use Rattle.std.proofs.lemmas.List.{take_all, take_at, take_more_set, get_or-map, get_or_default}
-use Rattle.std.proofs.lemmas.List.Sorted.{length_permutation, searchable_from_sorted}
+use Rattle.std.proofs.lemmas.List.Sorted.{length_permutation, sorted_far, searchable_from_sorted}
 use Rattle.std.proofs.lemmas.Bool.{cases_lt}
 use Rattle.model.specs.declared.Card.{Card}
 use Rattle.model.specs.Lines.{Line, pointer}
@@ -64,6 +65,9 @@ index_front file cards n table ys post c s up =
 
 -- What a search finds
 
+abbrev against : Name → Name → Ordering
+against y x = ordering_then (slice_cmp nat_cmp y.0.now x.0.now) (nat_cmp y.1 x.1)
+
 abbrev pub Absent : List Name → List ℕ → Type 0
 Absent names x = (a : ℕ) (d : Name) → a < length names → (get_or names a d).0.now ≡ x → ⊥
 
@@ -82,41 +86,68 @@ lex_refl xs ys e = go (slice_cmp nat_cmp xs ys) refl
     go Equal q = refl
     go Greater q = absurd (byte_strict.irrefl ys (ap (slice_cmp nat_cmp ys) (sym e) ∙ (lists_total nat_cmp_total).antisymm ys xs ∙ ap ordering_reverse q))
 
--- what is in order by name and card is in order by name
-names_rise : (names : List Name) → InOrder names → IsSortedBy (λ (a : Name) b. is_lt (slice_cmp nat_cmp a.0.now b.0.now)) names
-names_rise names up k d z h = first (slice_cmp nat_cmp (get_or names (k + 1) d).0.now (get_or names k d).0.now) _ (up k d z h)
+-- an entry with the name is not below that name at card 0
+name_not_below : (y x : Name) → x.1 ≡ 0 → y.0.now ≡ x.0.now → against y x ≡ Less → ⊥
+name_not_below y x z e l = go (nat_cmp y.1 x.1) (ranks y.1 x.1) (sym (ap (λ k. ordering_then k (nat_cmp y.1 x.1)) (lex_refl y.0.now x.0.now e)) ∙ l)
   where
-    first : (x y : Ordering) → is_lt (ordering_then x y) ≡ false → is_lt x ≡ false
-    first Less y e = e
-    first Equal y e = refl
-    first Greater y e = refl
+    go : (k : Ordering) → MatchOrdering k (y.1 < x.1) (y.1 ≡ x.1) (x.1 < y.1) → k ≡ Less → ⊥
+    go Less r q = omega arith
+    go Equal r q = true≢false (sym (ap is_lt q))
+    go Greater r q = true≢false (sym (ap is_lt q))
 
-pub searched_absent : (names : List Name) (x : Bor (List ℕ)) (i : ℕ) → (IsNonDecreasingBy (λ (y : Name). ordering_index (slice_cmp nat_cmp y.0.now x.now)) names → IsPartitionPoint (λ (y : Name). slice_cmp nat_cmp y.0.now x.now ≡ Less) (λ (y : Name). slice_cmp nat_cmp y.0.now x.now ≡ Greater) names i) → InOrder names → Absent names x.now
-searched_absent names x i p up a d h e =
-    let q = p (searchable_from_sorted (on_total (λ (y : Bor (List ℕ)). y.now) (lists_total nat_cmp_total)) (λ (y : Name). y.0) names x (names_rise names up)) in
-    let same = lex_refl (get_or names a d).0.now x.now e in
-    elim (cases_lt a i) [
-      | inl l ↦ (let z = sym same ∙ q.0 a d (omega arith) l in cc)
-      | inr l ↦ (let z = sym same ∙ q.1 a d l h in cc)
-    ]
+equal_name : (y x : Name) → against y x ≡ Equal → y.0.now ≡ x.0.now
+equal_name y x e = go (slice_cmp nat_cmp y.0.now x.0.now) refl e
+  where
+    go : (k : Ordering) → slice_cmp nat_cmp y.0.now x.0.now ≡ k → ordering_then k (nat_cmp y.1 x.1) ≡ Equal → y.0.now ≡ x.0.now
+    go Less q f = absurd (true≢false (ap is_lt f))
+    go Equal q f = lex_equal y.0.now x.0.now q
+    go Greater q f = absurd (true≢false (ap is_gt f))
 
--- what a search by the name answers
-module _ (names : List Name) (x : Bor (List ℕ)) (r : Result ℕ ℕ) (found : IsBinarySearchResult (λ (y : Name). slice_cmp nat_cmp y.0.now x.now) names r) where
-  pub absent_by : None ≡ result_ok r → InOrder names → Absent names x.now
-  absent_by none = go r found none
+-- one above it, with another name, has a greater name
+other_above : (y x : Name) → (y.0.now ≡ x.0.now → ⊥) → against y x ≡ Greater → ByteLess x.0.now y.0.now
+other_above y x h g = go (slice_cmp nat_cmp y.0.now x.0.now) refl g
+  where
+    go : (k : Ordering) → slice_cmp nat_cmp y.0.now x.0.now ≡ k → ordering_then k (nat_cmp y.1 x.1) ≡ Greater → ByteLess x.0.now y.0.now
+    go Less q f = absurd (true≢false (sym (ap is_gt f)))
+    go Equal q f = absurd (h (lex_equal y.0.now x.0.now q))
+    go Greater q f = (lists_total nat_cmp_total).antisymm x.0.now y.0.now ∙ ap ordering_reverse q
+
+pub absent : (names : List Name) (x : Name) (i : ℕ) → x.1 ≡ 0 → InOrder names → IsPartitionPoint (λ y. against y x ≡ Less) (λ y. against y x ≡ Greater) names i → (length names ≤ i) ⊎ ((d : Name) → (get_or names i d).0.now ≡ x.0.now → ⊥) → Absent names x.0.now
+absent names x i z up p past a d h e = elim (cases_lt a i) [
+  | inl l ↦ name_not_below (get_or names a d) x z e (p.0 a d (omega arith) l)
+  | inr l ↦ elim past [
+    | inl q ↦ omega arith
+    | inr q ↦
+        let above = other_above (get_or names i d) x (q d) (p.1 i d (omega arith) (omega arith)) in
+        let low : slice_cmp nat_cmp (get_or names a d).0.now (get_or names i d).0.now ≡ Less = ap (λ n. slice_cmp nat_cmp n (get_or names i d).0.now) e ∙ above in
+        true≢false (sym (ap (λ k. is_lt (ordering_then k (nat_cmp (get_or names a d).1 (get_or names i d).1))) low) ∙ sorted_far (λ x y. is_lt (against x y)) (ranks_by (then_total (on_total (λ p. p.0) (on_total (λ x. x.now) (lists_total nat_cmp_total))) (on_total (λ p. p.1) nat_cmp_total)) (λ (y : Name). y)) names up i a d l h)
+  ]
+]
+
+pub searched_absent : (names : List Name) (x : Name) (i : ℕ) → x.1 ≡ 0 → (IsNonDecreasingBy (λ y. ordering_index (against y x)) names → IsPartitionPoint (λ y. against y x ≡ Less) (λ y. against y x ≡ Greater) names i) → (length names ≤ i) ⊎ ((d : Name) → (get_or names i d).0.now ≡ x.0.now → ⊥) → InOrder names → Absent names x.0.now
+searched_absent names x i z p past up = absent names x i z up (p (searchable_from_sorted (then_total (on_total (λ p. p.0) (on_total (λ x. x.now) (lists_total nat_cmp_total))) (on_total (λ p. p.1) nat_cmp_total)) (λ (y : Name). y) names x up)) past
+
+pub found_there : (names : List Name) (i : ℕ) (x : List ℕ) (u : Name) → i < length names → (get_or names i u).0.now ≡ x → (a : ℕ) × (a < length names) × ((d : Name) → ((get_or names a d).0.now ≡ x) × ((get_or names a d).1 ≡ (get_or names i u).1))
+found_there names i x u h e = (i, h, λ d. (ap (λ (y : Name). y.0.now) (get_or_default names i d u h) ∙ e, ap (λ (y : Name). y.1) (get_or_default names i d u h)))
+
+pub ended_at : (r : Result ℕ ℕ) (i j : ℕ) → (r ≡ Ok j) ⊎ (r ≡ Err j) → i ≡ j → (r ≡ Ok i) ⊎ (r ≡ Err i)
+ended_at r i j e is = subst (λ k. (r ≡ Ok k) ⊎ (r ≡ Err k)) (sym is) e
+
+-- of a search for the name with card 0, where it ends
+module _ (names : List Name) (x : Bor (List ℕ)) (r : Result ℕ ℕ) (i : ℕ) (searched : IsBinarySearchResult (λ (y : Name). against y (x, 0)) names r) (bound : IsSearchInRange r (length names)) (ended : (r ≡ Ok i) ⊎ (r ≡ Err i)) where
+  pub absent_by : (length names ≤ i) ⊎ ((d : Name) → (get_or names i d).0.now ≡ x.now → ⊥) → InOrder names → Absent names x.now
+  absent_by past up a d l q = go ended
     where
-      go : (r : Result ℕ ℕ) → IsBinarySearchResult (λ (y : Name). slice_cmp nat_cmp y.0.now x.now) names r → None ≡ result_ok r → InOrder names → Absent names x.now
-      go (Ok i) p e = absurd (let z : ◌≡◌ {A = ℕ} 0 1 = cc in omega arith)
-      go (Err i) p e = searched_absent names x i p
+      go : (r ≡ Ok i) ⊎ (r ≡ Err i) → ⊥
+      go (inl ok) =
+          let here = subst (λ s. IsBinarySearchResult (λ (y : Name). against y (x, 0)) names s) ok searched in
+          let low : i < length names = subst (λ s. IsSearchInRange s (length names)) ok bound in
+          elim past [ inl p ↦ omega arith | inr other ↦ other d (equal_name (get_or names i d) (x, 0) (here d)) ]
+      go (inr err) = searched_absent names (x, 0) i refl (subst (λ s. IsBinarySearchResult (λ (y : Name). against y (x, 0)) names s) err searched) past up a d l q
 
-  pub found_by : (i : ℕ) (u : Name) → IsSearchInRange r (length names) → Some i ≡ result_ok r → (a : ℕ) × (a < length names) × ((d : Name) → ((get_or names a d).0.now ≡ x.now) × ((get_or names a d).1 ≡ (get_or names i u).1))
-  found_by i u within some = go r found within some
-    where
-      go : (r : Result ℕ ℕ) → IsBinarySearchResult (λ (y : Name). slice_cmp nat_cmp y.0.now x.now) names r → IsSearchInRange r (length names) → Some i ≡ result_ok r → (a : ℕ) × (a < length names) × ((d : Name) → ((get_or names a d).0.now ≡ x.now) × ((get_or names a d).1 ≡ (get_or names i u).1))
-      go (Ok j) p h e =
-          let same : i ≡ j = cc in
-          (j, h, λ d. (lex_equal (get_or names j d).0.now x.now (p d), ap (λ (y : Name). y.1) (get_or_default names j d u h) ∙ ap (λ k. (get_or names k u).1) (sym same)))
-      go (Err j) p h e = absurd (let z : ◌≡◌ {A = ℕ} 0 1 = cc in omega arith)
+  pub found_by : (b : Bool) (e : Name) → i < length names → e ≡ get_or names i e → Decides b (e.0.now ≡ x.now) → FindsName names x.now (then_some b e.1)
+  found_by true e h is t = (i, h, λ d. let same = get_or_default names i d e h ∙ sym is in (ap (λ (y : Name). y.0.now) same ∙ t.0 refl, ap (λ (y : Name). y.1) same))
+  found_by false e h is t = absent_by (inr (λ d q. true≢false (sym (t.1 (ap (λ (y : Name). y.0.now) (is ∙ get_or_default names i e d h) ∙ q)))))
 
 -- The rules
 

@@ -85,8 +85,9 @@ fn repeated(names: &[Named<'_>]) -> Option<usize>
 pub fn find(names: &[Named<'_>], name: &[u8]) -> Option<usize>
     ensures { FindsName names.now name.now result }
 {
-    let at = names.binary_search_by_key(&name, |entry| entry.0).ok()?;
-    Some(names[at].1)
+    let (Ok(at) | Err(at)) = names.binary_search(&(name, 0));
+    let entry = names.get(at)?;
+    (entry.0 == name).then_some(entry.1)
 }
 
 // The card that a card's pointer names, by the index of the cards, or none if it names none.

@@ -1,10 +1,9 @@
 -- The model's questions about every byte or word, as chains of iterators ask them. Assumes nothing.
-use Rattle.std.proofs.Common.{◌≡◌, ℕ, Bool, true, false, not, ◌&&◌, ◌||◌, eqb, List, [], ◌∷◌, count_by, map, refl, ap, ◌∙◌, arith, Bor}
+use Rattle.std.proofs.Common.{◌≡◌, ℕ, Bool, true, false, not, ◌&&◌, ◌||◌, eqb, List, [], ◌∷◌, map, refl, ap, ◌∙◌, Bor}
 use Rattle.std.specs.Char.{is_ascii_digit}
 use Rattle.std.specs.List.{list_any, list_all}
 use Rattle.std.specs.Str.{bytes_eq}
-use Rattle.std.proofs.lemmas.Grind.{common_steps}
-use Rattle.model.specs.Kinds.{all_digits, all_spaces, slashes, no_tab}
+use Rattle.model.specs.Kinds.{all_digits, all_spaces, no_tab}
 use Rattle.model.specs.Tables.{among}
 
 pub digits_by_all : (t : List ℕ) → all_digits t ≡ list_all is_ascii_digit t
@@ -14,10 +13,6 @@ digits_by_all (c ∷ cs) = ap (λ b. is_ascii_digit c && b) (digits_by_all cs)
 pub spaces_by_all : (t : List ℕ) → all_spaces t ≡ list_all (λ c. eqb c 32) t
 spaces_by_all [] = refl
 spaces_by_all (c ∷ cs) = ap (λ b. eqb c 32 && b) (spaces_by_all cs)
-
-pub slashes_by_count : (t : List ℕ) → slashes t ≡ count_by (λ c. eqb c 47) t
-slashes_by_count [] = refl
-slashes_by_count (c ∷ cs) = let k = slashes_by_count cs in grind (arith, common_steps)
 
 none_of : (b c : Bool) → (not b && not c) ≡ not (b || c)
 none_of true c = refl

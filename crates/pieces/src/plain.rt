@@ -1,6 +1,6 @@
 ghost use Rattle.std.specs.Prelude.{◌≡◌, map};
 ghost use Rattle.model.specs.Tables.{among};
-ghost use Rattle.model.specs.Kinds.{all_digits};
+ghost use Rattle.model.specs.Kinds.{all_digits, slashes};
 ghost use Rattle.model.specs.Grammar.{is_flag, is_integer, is_version, is_person};
 
 // The letter that says that an event took place.
@@ -30,20 +30,30 @@ pub fn is_version(text: &[u8]) -> bool
     matches!(text, b"7.0") || text.strip_prefix(b"7.0.").is_some_and(is_integer)
 }
 
+// A loop: a count of what a filter lets through took half as long again on long names.
+fn slashes_in(text: &[u8]) -> usize
+    ensures { result ≡ slashes text.now }
+{
+    let mut count = 0;
+    for c in text {
+        if *c == b'/' {
+            count += 1;
+        }
+    }
+    count
+}
+
 // A name has no tab, and its surname, where it is marked, stands between two slashes.
-#[tactic(auto, using(crate::proofs::Chains::slashes_by_count, crate::proofs::Chains::tab_by_any))]
+#[tactic(auto, using(crate::proofs::Chains::tab_by_any))]
 pub fn is_person(text: &[u8]) -> bool
     ensures { result ≡ is_person text.now }
 {
-    !text.is_empty()
-        && !text.contains(&b'\t')
-        && matches!(text.iter().filter(|c| **c == b'/').count(), 0 | 2)
+    !text.is_empty() && !text.contains(&b'\t') && matches!(slashes_in(text), 0 | 2)
 }
 
 // Whether a word is among some.
-#[tactic(auto, using(crate::proofs::Chains::among_by_any))]
 pub fn is_one_of(word: &[u8], words: &[&[u8]]) -> bool
     ensures { result ≡ among (map (λ x. x.now) words.now) word.now }
 {
-    words.contains(&word)
+    words.iter().any(|known| *known == word)
 }

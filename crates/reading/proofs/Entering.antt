@@ -44,7 +44,7 @@ module _ (file : List ℕ) (cards : List Card) (names : List Name) (b : List Ent
     entry_is = let y = body_long in sym (ap (λ es. get_or es i no_entry) s.2 ∙ body_at (entries d) i (omega arith))
 
     -- the card files the entry
-    filed : (c : Card) → Files s.1.placed (get_or cards i c) (get_or b i no_entry)
+    pub filed : (c : Card) → Files s.1.placed (get_or cards i c) (get_or b i no_entry)
     filed c = let y = body_long in subst (Files s.1.placed (get_or cards i c)) entry_is (files_at s.1.placed cards (entries d) s.1.files i c no_entry (omega arith))
 
     pub filed_by : (c : Card) → c ≡ get_or cards i blank → Files s.1.placed c (get_or b i no_entry)

@@ -40,7 +40,7 @@ module _ (file : List ℕ) (cards : List Card) (d : Dataset) (h : Holds file car
   abbrev CardIs : ℕ → Result Card Refusal → Type 0
   CardIs k r = MatchResult r (λ c. (k < card_count d) × (c ≡ get_or cards k no_card)) (λ f. (f ≡ Past) × (card_count d ≤ k))
 
-  past_end : (k : ℕ) → length cards ≤ k → card_count d ≤ k
+  pub past_end : (k : ℕ) → length cards ≤ k → card_count d ≤ k
   past_end k q = let room = held_room file cards d h in omega arith
 
   past_blank : (k : ℕ) → (get_or cards k no_card).state ≡ Blank → card_count d ≤ k
