@@ -3,7 +3,7 @@
 
     python3 tools/places.py [-v] [FOLDER]     FOLDER is a checkout (this one); -v prints each place
 
-A row is a kind of place; docs/DESIGN-PASS.md says what became of them."""
+A row is a kind of place. docs/DESIGN-PASS.md says what the changes took away."""
 import collections, glob, os, re, sys
 
 verbose = '-v' in sys.argv
