@@ -1,32 +1,26 @@
 -- A text cut at the first of a byte, by its place. Assumes nothing.
-use Rattle.std.proofs.Common.{◌≡◌, ℕ, ◌+◌, ◌-◌, ◌<◌, ◌≤◌, Bool, cond, not, ◌&&◌, eqb, ltb, List, [], ◌∷◌, length, take, drop, Some, None, Option, sym, refl, ap, ◌∙◌, arith, length-drop}
-use Rattle.std.specs.List.{position, position_or_len}
-use Rattle.std.proofs.lemmas.Bool.Decides.{nat_tests}
+use Rattle.std.proofs.Common.{◌≡◌, ℕ, ◌+◌, ◌-◌, ◌<◌, ◌≤◌, Bool, not, ◌&&◌, Bor, List, [], ◌∷◌, length, take, drop, Some, None, Option, sym, refl, ap, ◌∙◌, arith, length-drop}
+use Rattle.std.specs.List.{prefix_len}
+use Rattle.std.specs.Option.{option_map}
 use Rattle.std.proofs.lemmas.List.{drop_more, drop_all, take_all, take_rest}
 use Rattle.model.specs.Kinds.{cut, left_trimmed, right_trimmed}
-use Rattle.model.specs.Grammar.{piece, behind_first, behind, pieces, starts_blank, ends_blank, begins_well, ends_well, are_texts, later_pass, pieces_pass}
+use Rattle.model.specs.Grammar.{other_than, piece, behind_first, behind, pieces, starts_blank, ends_blank, begins_well, ends_well, are_texts, later_pass, pieces_pass}
 use Rattle.model.proofs.Grammars.{cut_step}
 
--- where a byte first stands, as `position` says it
-found : (n m e : ℕ) → cond (ltb n m) (Some n) None ≡ Some e → (e ≡ n) × (n < m)
-found n m e is = grind (arith, nat_tests)
+module _ (c : ℕ) (t : List ℕ) (e : ℕ) (is : e ≡ prefix_len (other_than c) t) where
+  pub before_it : take e t ≡ piece c t
+  before_it = ap (λ n. take n t) is
 
-not_found : (n m : ℕ) → cond (ltb n m) (Some n) None ≡ None → m ≤ n
-not_found n m is = grind (arith, nat_tests)
+  pub behind_it : e < length t → Some (take (length t - (e + 1)) (drop (e + 1) t)) ≡ behind c t
+  behind_it h = ap Some (take_rest t (e + 1)) ∙ sym (ap behind_first (drop_more t e 0 h)) ∙ ap (λ n. behind_first (drop n t)) is
 
-module _ (c : ℕ) (t : List ℕ) where
-  abbrev place : ℕ
-  place = position_or_len (λ x. eqb x c) t
+  pub none_behind : length t ≤ e → None ≡ behind c t
+  none_behind h = sym (ap behind_first (drop_all e t h)) ∙ ap (λ n. behind_first (drop n t)) is
 
-  pub first_and_rest : (e : ℕ) → position (λ x. eqb x c) t ≡ Some e → (take e t ≡ piece c t) × (Some (take (length t - (e + 1)) (drop (e + 1) t)) ≡ behind c t)
-  first_and_rest e is =
-      let at : (e ≡ place) × (place < length t) = found place (length t) e is in
-      (ap (λ n. take n t) at.0, ap Some (take_rest t (e + 1)) ∙ ap (λ n. Some (drop (n + 1) t)) at.0 ∙ sym (ap behind_first (drop_more t place 0 at.1)))
-
-  pub first_alone : position (λ x. eqb x c) t ≡ None → (t ≡ piece c t) × (None ≡ behind c t)
-  first_alone is =
-      let past : length t ≤ place = not_found place (length t) is in
-      (sym (take_all place t past), sym (ap behind_first (drop_all place t past)))
+  -- what is got from behind that place, if it lies within
+  pub got_behind : (r : Option (Bor (List ℕ))) → (r ≡ None → length t ≤ e) → ((x : Bor (List ℕ)) → r ≡ Some x → (e < length t) × (x.now ≡ take (length t - (e + 1)) (drop (e + 1) t))) → option_map (λ x. x.now) r ≡ behind c t
+  got_behind None past within = none_behind (past refl)
+  got_behind (Some x) past within = let w = within x refl in ap Some w.1 ∙ behind_it w.0
 
 -- where no such byte stands, the first piece is the whole
 no_more_from : (xs : List ℕ) → None ≡ behind_first xs → length xs ≡ 0
@@ -34,7 +28,9 @@ no_more_from [] e = refl
 no_more_from (x ∷ xs) e = cc
 
 pub whole_piece : (c : ℕ) (t : List ℕ) → None ≡ behind c t → piece c t ≡ t
-whole_piece c t is = take_all (place c t) t (omega (arith, length-drop (place c t) t, no_more_from (drop (place c t) t) is))
+whole_piece c t is =
+    let n = prefix_len (other_than c) t in
+    take_all n t (omega (arith, length-drop n t, no_more_from (drop n t) is))
 
 -- What is asked of the pieces of a text, by its first cut
 

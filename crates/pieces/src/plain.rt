@@ -30,17 +30,11 @@ pub fn is_version(text: &[u8]) -> bool
     matches!(text, b"7.0") || text.strip_prefix(b"7.0.").is_some_and(is_integer)
 }
 
-// A loop: a count of what a filter lets through took half as long again on long names.
+// A sum: a count of what a filter lets through takes twice as long on long names.
 fn slashes_in(text: &[u8]) -> usize
     ensures { result ≡ slashes text.now }
 {
-    let mut count = 0;
-    for c in text {
-        if *c == b'/' {
-            count += 1;
-        }
-    }
-    count
+    text.iter().map(|c| usize::from(*c == b'/')).sum()
 }
 
 // A name has no tab, and its surname, where it is marked, stands between two slashes.

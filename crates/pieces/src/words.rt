@@ -10,10 +10,8 @@ pub fn cut_at(text: &[u8], byte: u8) -> (&[u8], Option<&[u8]>)
     ensures first { result.0.now ≡ piece byte text.now }
     ensures rest { option_map (λ x. x.now) result.1 ≡ behind byte text.now }
 {
-    match text.iter().position(|c| *c == byte) {
-        Some(end) => (&text[..end], Some(&text[end + 1..])),
-        None => (text, None),
-    }
+    let end = text.iter().take_while(|c| **c != byte).count();
+    (&text[..end], text.get(end + 1..))
 }
 
 // The words of a text that are still to be read. One space parts two words, so a word may be empty.

@@ -1,20 +1,12 @@
-use Rattle.std.proofs.Common.{◌≡◌, ℕ, ◌+◌, cond, eqb, List, get_or, drop, arith}
-use Rattle.std.proofs.lemmas.List.{at_drop_more, at_drop_all}
-use Rattle.std.proofs.lemmas.Bool.{cond-true, cond-false, eq-eqb, ne_eqb}
-use Rattle.model.specs.Kinds.{slashes}
+use Rattle.std.proofs.Common.{◌∙◌, rules, arith}
+use Rattle.std.proofs.lemmas.Iterator.{YieldsList-from_slice, YieldsList-from_map}
+use Rattle.std.proofs.lemmas.Iterator.Consumers.{fits_by_from_yields_list, sum_by_from_yields_List}
+use Rattle.std.proofs.lemmas.Grind.{common_steps}
+use Rattle.pieces.proofs.Chains.{slash, slashes_by_sum, slashes_within}
 use Rattle.pieces.proofs.plain.slashes_in.Goals as goal
-use Rattle.pieces.proofs.plain.slashes_in.Goals.{then-c-eq47, else-c-eq47}
 
-pub loop-c-preserved : goal.loop-c-preserved
-loop-c-preserved c =
-    let t : List ℕ = c.args.text.now in
-    let i : ℕ = c.loop-c.c-index in
-    let step : slashes (drop i t) ≡ cond (eqb (get_or t i 0) 47) 1 0 + slashes (drop (i + 1) t) = at_drop_more slashes t i 0 c.loop-c-test.true in
-    let inv = c.loop-c.invariant in
-    elim c.if-c-eq47.branch [
-      | then-c-eq47 w ↦ let one = cond-true {A = ℕ} (eqb (get_or t i 0) 47) 1 0 (eq-eqb (get_or t i 0) 47 w.if-c-eq47.true) in let n = w.count-is in (omega arith, omega arith)
-      | else-c-eq47 w ↦ let none = cond-false {A = ℕ} (eqb (get_or t i 0) 47) 1 0 (ne_eqb (get_or t i 0) 47 w.if-c-eq47.false) in let n = w.count-is in (omega arith, omega arith)
-    ]
+pub sum-requires-clause-fits : goal.sum-requires-clause-fits
+sum-requires-clause-fits c = fits_by_from_yields_list slash c.args.text.now c.map.result _ (YieldsList-from_map _ slash (YieldsList-from_slice c.args.text.now cc) c.map.ensures.closure (λ x r q k. search (rules, arith))) (let n = slashes_within c.args.text.now in grind (arith, common_steps))
 
 pub returns : goal.returns
-returns c = let none = at_drop_all slashes c.args.text.now c.loop-c.c-index c.loop-c-test.false in let inv = c.loop-c.invariant in omega arith
+returns c = sum_by_from_yields_List slash c.args.text.now c.map.result c.sum.result c.sum.ensures.ran (YieldsList-from_map _ slash (YieldsList-from_slice c.args.text.now cc) c.map.ensures.closure (λ x r q k. search (rules, arith))) ∙ slashes_by_sum c.args.text.now
