@@ -18,10 +18,6 @@ and_test : (x y z : Bool) → y ≡ false → (x && (y && z)) ≡ false
 and_test true y z e = ap (λ w. w && z) e
 and_test false y z e = refl
 
-more : (s : Bool) (j : ℕ) (rest : List ℕ) → length (cond s (j ∷ rest) rest) ≡ cond s 1 0 + length rest
-more true j rest = omega arith
-more false j rest = omega arith
-
 one_more : {X : Type 0} (s : Bool) (x : X) (rest : List X) → length (cond s (x ∷ rest) rest) ≡ cond s 1 0 + length rest
 one_more true x rest = omega arith
 one_more false x rest = omega arith
@@ -52,7 +48,7 @@ module _ (m : Meaning) (b : List Entry) (row : Siblings) (t : ℕ) where
         | inl deeper ↦ ap (λ s. length (cond s (j ∷ kept) kept)) (passed h deeper) ∙ rest ∙ sym (ap (how_many (Some t)) (types_pass b j row.level m row.context h deeper))
         | inr above ↦
             let same : level_at b j ≡ row.level = omega arith in
-            ap (λ s. length (cond s (j ∷ kept) kept)) (typed_here h same) ∙ more (is_typed t (m.row row.context (get_or b j no_entry).tag)) j kept ∙ ap (λ x. cond (is_typed t (m.row row.context (get_or b j no_entry).tag)) 1 0 + x) rest ∙ sym (ap (how_many (Some t)) (types_more b j row.level m row.context h same))
+            ap (λ s. length (cond s (j ∷ kept) kept)) (typed_here h same) ∙ one_more (is_typed t (m.row row.context (get_or b j no_entry).tag)) j kept ∙ ap (λ x. cond (is_typed t (m.row row.context (get_or b j no_entry).tag)) 1 0 + x) rest ∙ sym (ap (how_many (Some t)) (types_more b j row.level m row.context h same))
       ]
     where
       passed : j < length b → row.level < level_at b j → stands_at m b row t j ≡ false
