@@ -1,10 +1,12 @@
-use Rattle.std.proofs.Common.{ℕ, ◌<◌, length, subst, sym, refl, ap, ◌∙◌, rules}
+use Rattle.std.proofs.Common.{◌≡◌, Some, arith, ℕ, ◌<◌, length, subst, sym, refl, ap, ◌∙◌, rules}
 use borrow.Author.Tests.{tests}
 use Rattle.std.specs.Iterator.Runs.{ItemsCountUp}
 use Rattle.std.specs.declared.ops.Range.{Range}
 use Rattle.std.proofs.iter.runs.Sources.{range_runs}
 use Rattle.model.specs.Positions.{level_at}
-use Rattle.editing.specs.Rows.{stands_at}
+use Rattle.std.proofs.lemmas.Grind.{common_steps}
+use Rattle.model.specs.Removal.{how_many}
+use Rattle.editing.specs.Rows.{stands_at, types_in}
 use Rattle.editing.proofs.Counting.{counted, picked, answers, deep_to, stopped, told_end}
 use Rattle.editing.proofs.tree.Tree.count_typed.Goals as goal
 
@@ -23,4 +25,5 @@ returns g c b s =
     let here = answers m b row c.args.typed first n r.0.len q.0.at r.0.at r.2.0.0 ups.3 _ (λ x y h. search (rules, tests)) each.1 q.0.items q.0.reads in
     let deep = deep_to m b row c.args.typed first n r.0.len q.0.at r.0.at r.2.0.0 ups.3 _ (λ x y h. search (rules, tests)) each.1 in
     let end = stopped first (length b) n r.0.len r.0.at r.0.at (λ k h. refl) r.2.0.0 ups.3 ups.2 _ (λ x. level_at b x < row.level) r.0.whole (λ x lt h. told_end m b row c.args.typed x lt (search (rules, tests))) ups.1 (r.2.0.2 (q.2.0 ∙ u.2)) in
-    u.3 ∙ u.0.long ∙ ap length filtered ∙ picked (stands_at m b row c.args.typed) q.0.items first n (sym q.0.long) here ∙ counted m b row c.args.typed n first deep end
+    let told : c.count.result ≡ how_many (Some c.args.typed) (types_in m b row) = u.3 ∙ u.0.long ∙ ap length filtered ∙ picked (stands_at m b row c.args.typed) q.0.items first n (sym q.0.long) here ∙ counted m b row c.args.typed n first deep end in
+    grind (arith, common_steps)
